@@ -3,10 +3,10 @@ rewinds again and again."""
 from __future__ import annotations
 
 import random
-from collections.abc import Iterator
+from collections.abc import Iterable, Iterator
 
 WORD = 1 << 64
-# The numbers of the mixing in crates/values/src/members.rt and crates/edn/src/digest.rt.
+# The numbers of the mixing in crates/values/src/members.rt, and of one of elements in an earlier version.
 FIRST, SECOND = 0x2545F4914F6CDD1D, 0x9FB21C651E98DF25
 FACTOR, OTHER = 0x9E3779B97F4A7C15, 0xD6E8FEB86659FD93
 
@@ -35,7 +35,7 @@ def of_lower_half(half: int) -> int:
 
 
 def stirred(number: int) -> int:
-    """The number of an element that is a number."""
+    """The number that an integer had in an earlier version."""
     folded = unlaid((number % WORD ^ FIRST) * FACTOR % WORD)
     return unlaid(folded * OTHER % WORD)
 
@@ -59,11 +59,47 @@ def pairs_of_keys(values: list[int], keys: int) -> Iterator[str]:
         yield from pairs(values, key)
 
 
+def in_one_event(text: str) -> Iterator[str]:
+    """One event whose further key has this value."""
+    yield f"{{:x {text} :type :invoke, :process 0, :f :read, :value [0 nil]}}\n" + event("ok", "read", "nil")
+
+
+def set_of(inside: Iterable[object]) -> str:
+    return "#{" + " ".join(map(str, inside)) + "}"
+
+
 def vectors_of_one_number(count: int) -> Iterator[str]:
-    """One event whose further key has a set of vectors, different ones with one number."""
+    """A set of vectors, different ones whose numbers in an earlier version were one."""
     number = 0x123456789ABCDEF
-    inside = " ".join(f"[{at} {signed(unstirred((number - stirred(6 + stirred(at))) % WORD))}]" for at in range(count))
-    yield f"{{:x #{{{inside}}} :type :invoke, :process 0, :f :read, :value [0 nil]}}\n" + event("ok", "read", "nil")
+    second = (signed(unstirred((number - stirred(6 + stirred(at))) % WORD)) for at in range(count))
+    return in_one_event(set_of(f"[{at} {value}]" for at, value in enumerate(second)))
+
+
+def sets_of_one_number(count: int, size: int) -> Iterator[str]:
+    """A set of sets, different ones whose numbers in an earlier version were one. All but two members are the same."""
+    last = (signed(unstirred((777 - stirred(1000 + at)) % WORD)) for at in range(count))
+    return in_one_event(set_of(set_of([*range(size - 2), 1000 + at, value]) for at, value in enumerate(last)))
+
+
+def alike(size: int, draw: random.Random, last: int) -> str:
+    """A set of vectors in some order, among them one of this value. Two sets that differ in one member are long alike."""
+    values = list(range(size))
+    draw.shuffle(values)
+    return set_of(f"[{value}]" for value in [*values, size + last])
+
+
+def two_alike(size: int, draw: random.Random, last: int) -> Iterator[str]:
+    """A set of two large sets, which are the same if the last member of both is."""
+    return in_one_event(set_of([alike(size, draw, 0), alike(size, draw, last)]))
+
+
+def nested_alike(levels: int, size: int, draw: random.Random) -> Iterator[str]:
+    """Sets of two sets that are as large as each other, down to large ones at the last level."""
+    def at(level: int, place: int) -> str:
+        if level == 0:
+            return alike(size, draw, place)
+        return set_of([at(level - 1, 2 * place), at(level - 1, 2 * place + 1)])
+    return in_one_event(at(levels, 0))
 
 
 def beside_open(name: str, opened: int, count: int, step: int = 7) -> Iterator[str]:

@@ -22,7 +22,7 @@ import case_loop  # noqa: E402
 from program import COMPILED, PROGRAM  # noqa: E402
 GUIDE = sorted(str(page.relative_to(TOP)) for page in TOP.glob("docs/guide/*.md"))
 DOCUMENTS = ["README.md", "docs/GUIDE.md", *GUIDE, "docs/READING_PROOFS.md", "docs/FORMATS.md", "docs/ADDING.md"]
-TOOLS = ["judge", "shards", "explain", "from-jepsen", "from-json", "test"]
+TOOLS = ["judge", "shards", "explain", "explore", "from-jepsen", "from-json", "test"]
 MARK = "\x1e"
 COMMAND = re.compile(r"(\$ |\./|jepmon |examples/\S+ |python3 )")
 

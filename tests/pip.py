@@ -24,7 +24,7 @@ from case_loop import Case, differing, run_cases
 from program import PROGRAM
 
 TOP = pathlib.Path(__file__).resolve().parent.parent
-TOOLS = ("jepmon-judge", "jepmon-shards", "jepmon-explain", "jepmon-from-jepsen", "jepmon-from-json", "jepmon-runs",
+TOOLS = ("jepmon-judge", "jepmon-shards", "jepmon-explain", "jepmon-explore", "jepmon-from-jepsen", "jepmon-from-json", "jepmon-runs",
          "jepmon-test")
 LIMIT = 300  # seconds: a virtual environment is slow to make
 ENVIRONMENT: Dict[str, str] = {name: value for name, value in os.environ.items() if not name.startswith(("PIP_", "PYTHON", "JEPMON"))}

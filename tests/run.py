@@ -10,13 +10,13 @@ words, it runs the cases of these names alone.
 """
 import sys
 
-from black_box import checks, command_line, folders, runs, streams
+from black_box import checks, command_line, folders, runs, streams, windows
 from case_loop import run_cases
 
 
 def all_cases():
     """Each case by its name."""
-    return [*folders.cases(), *(case for module in (streams, checks, command_line, runs) for case in module.CASES.items())]
+    return [*folders.cases(), *(case for module in (streams, checks, windows, command_line, runs) for case in module.CASES.items())]
 
 
 if __name__ == "__main__":

@@ -24,7 +24,7 @@ if TYPE_CHECKING:
     from .live.verdicts import Failed, Illegal, JepmonError, NotLegal, Refused, Unknown
     from .long import LongMonitor
 
-__version__ = "1.7.0"
+__version__ = "1.7.1"
 __all__ = ["ABSENT", "Failed", "Illegal", "JepmonError", "Keys", "LongMonitor", "Monitor", "NotLegal", "Operation", "Refused", "Unknown"]
 
 # The module of each name. A module is loaded at first use, so that the tools start fast.

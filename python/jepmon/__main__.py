@@ -1,4 +1,4 @@
-"""The tools by one name: python3 -m jepmon judge|shards|explain|from-jepsen|from-json|runs|test WORD.."""
+"""The tools by one name: python3 -m jepmon judge|shards|explain|explore|from-jepsen|from-json|runs|test WORD.."""
 import importlib
 import sys
 from typing import List
@@ -9,6 +9,7 @@ TOOLS = {
     "judge": "judges a recorded history, and says why it is illegal",
     "shards": "splits a history into shards in a folder, judges shards, and joins the results",
     "explain": "runs a check, and shows the file's own events beside its last line",
+    "explore": "an object of a file by hand, and remarks on its rules",
     "from-jepsen": "turns a recorded Jepsen history into one that jepmon reads",
     "from-json": "turns JSON lines into a history that jepmon reads",
     "runs": "shows all runs of a folder at a glance",

@@ -11,6 +11,7 @@ history as it is.
 from __future__ import annotations
 
 import argparse
+import shlex
 import sys
 from typing import Iterator, List, Optional
 
@@ -18,9 +19,10 @@ from .forms import Refused, door, files, mapping_words, meant_words
 from .forms.look_alikes import account_for_types
 from .forms.recorded import Options, Recorded, recorded
 from .history.kinds import KEYS
-from .judge import models
+from .judge import models, tasks
 from .judge.hints import outcomes
-from .judge.words import number
+from .judge.words import number, objects_of
+from .rules import Objects
 from .tools import command
 
 NAME = "from-json"
@@ -43,8 +45,9 @@ def _turn(arguments: Optional[List[str]]) -> int:
     try:
         given = _given(arguments)
         found = _found(given)
+        tasks.test_clients(found, models.chosen(found.facts, None, {}, found.possible, given.objects), given.objects)
         account_for_types(found.key_names, found.value_names, given.values, found.account)
-        for line in _told(found):
+        for line in _told(found, given.objects):
             command.say(NAME, line)
         if given.strict_input:
             found.account.test_strict()
@@ -65,6 +68,8 @@ def _given(arguments: Optional[List[str]]) -> argparse.Namespace:
     parser.add_argument("--nil-is-absent", action="store_true", help="null is the answer of a missing key, and is judged")
     meant_words.add(parser)
     mapping_words.add(parser)
+    parser.add_argument("--objects", metavar="FILE", type=objects_of, help="a file with objects of your own, whose operations the history has "
+                        "(docs/guide/OBJECTS.md)")
     parser.add_argument("--strict-input", action="store_true", help="refuse each guess, for example of the key, instead of following it")
     try:
         return parser.parse_args(arguments)
@@ -75,7 +80,7 @@ def _given(arguments: Optional[List[str]]) -> argparse.Namespace:
 def _found(given: argparse.Namespace) -> Recorded:
     source = files.found(given.file)
     options = Options(None if given.key is None else str(given.key), given.nil_is_absent, None, mapping_words.of(given), True, given.values,
-                      tuple(given.absent), given.initial)
+                      tuple(given.absent), given.initial, given.objects)
     try:
         if door.form_of(source, options) in (door.OWN, door.JEPSEN, door.KEYED):
             raise Refused(f"it is EDN: {command.tool('from-jepsen')} turns it")
@@ -84,7 +89,7 @@ def _found(given: argparse.Namespace) -> Recorded:
         raise Refused(f"{source.name}: {refusal}") from refusal
 
 
-def _told(found: Recorded) -> Iterator[str]:
+def _told(found: Recorded, objects: Optional[Objects]) -> Iterator[str]:
     """The notes on standard error about the turned history."""
     yield f"{found.form}: {found.facts.events} events"
     yield from found.notes
@@ -92,11 +97,12 @@ def _told(found: Recorded) -> Iterator[str]:
     yield from outcomes(found.facts.outcomes)
     if found.key_names or found.value_names:
         yield "keys or values are numbered: comments at the end of the output have their meanings"
-    choice, threads = models.chosen(found.facts, None, {}, found.possible), models.concurrency_of(found.facts)
+    choice, threads = models.chosen(found.facts, None, {}, found.possible, objects), models.concurrency_of(found.facts)
+    by_objects = "" if objects is None else f" --objects {shlex.quote(objects.path)}"
     if choice.common:
-        yield f"judge it by: jepmon check FILE --concurrency {threads} --model {choice.common}"
+        yield f"judge it by: jepmon check FILE --concurrency {threads}{by_objects} --model {choice.common}"
     else:
-        yield f"its keys are of several kinds: judge it by jepmon script --concurrency {threads}, these lines before it:"
+        yield f"its keys are of several kinds: judge it by jepmon script --concurrency {threads}{by_objects}, these lines before it:"
         yield from (f"  [:model {key} :{model}]" for key, model in choice.models.items())
 
 

@@ -16,7 +16,7 @@ from .history import Event, Operation, of_key, operations
 from .program import Options, Report, check
 from .shrinking import ways
 from .shrinking.kept import kept
-from .shrinking.part import as_asked, events_of, text_of, without
+from .shrinking.part import as_asked, asked_text, events_of, without
 from .shrinking.units import Unit, dragging, with_dragged
 
 
@@ -50,7 +50,7 @@ def smallest(events: Sequence[Event], report: Report, options: Options, program:
         search.effort.leave_out("the smallest illegal part")
         return None
     made = events_of(left.operations)
-    return Part(made, text_of(made, own.concurrency), as_asked(own), len(whole), len(left.operations), left.values, search.checks,
+    return Part(made, asked_text(made, own), as_asked(own), len(whole), len(left.operations), left.values, search.checks,
                 not search.is_spent)
 
 
@@ -78,8 +78,8 @@ class Search:
         before = -1
         while before != len(left.operations) and not self.is_spent:
             before = len(left.operations)
-            for number in range(len(ways(self.options.model, []))):
-                less = self.round(left.operations, ways(self.options.model, left.operations)[number])
+            for number in range(len(self.ways([]))):
+                less = self.round(left.operations, self.ways(left.operations)[number])
                 left = Left(less.operations, left.values | less.values)
         return left
 
@@ -87,13 +87,16 @@ class Search:
         """The operations of the hints alone. None if they are not illegal, or if there are no hints."""
         if not self.hints:
             return None
-        for units in ways(self.options.model, whole):
+        for units in self.ways(whole):
             others = [number for number in self.free(whole, units)
                       if not any(self.is_hinted(whole[place]) for place in units[number].operations)]
             left = taken_out(whole, units, with_dragged(units, others))
             if self.is_illegal(left.operations):
                 return left
         return None
+
+    def ways(self, whole: List[Operation]) -> List[List[Unit]]:
+        return ways(self.options.model, whole, self.options.own)
 
     def without_idle(self, whole: List[Operation]) -> List[Operation]:
         """Removes operations that decide nothing (failed ones, and reads without an answer), except for those that readers must see."""
@@ -137,13 +140,13 @@ class Search:
     def is_illegal(self, part: List[Operation]) -> bool:
         """Whether the program says `illegal` at its last event. False if there is no effort left for this question."""
         events = events_of(part)
-        text = text_of(events, self.options.concurrency)
+        text = asked_text(events, self.options)
         if not self.effort.may_ask(text, len(events)):
             self.is_spent = True
             return False
         self.checks += 1
         report = check(text.encode(), as_asked(self.options), self.program)
-        return report.word == "illegal" and report.index == len(events) - 1
+        return report.word == "illegal" and report.index == text.count("\n") - 1
 
 
 def taken_out(whole: List[Operation], units: List[Unit], out: Set[int]) -> Left:

@@ -44,7 +44,7 @@ def checks() -> Iterator[Judged]:
     """Each history that a case gives to `jepmon check`."""
     for case in sorted((TOP / "tests" / "cases").iterdir()):
         words = case_loop.words(case / "args")
-        if words[:1] == ["check"] and len(words) > 1 and (TOP / words[1]).is_file() and not (case / "memory").exists():
+        if words[:1] == ["check"] and len(words) > 1 and "--objects" not in words and (TOP / words[1]).is_file() and not (case / "memory").exists():
             raw = (TOP / words[1]).read_bytes()
             yield from judged(case.name, raw, words[2:], (case / "stdout").read_text())
     for case in sorted((TOP / "tests" / "explain").iterdir()):
@@ -78,6 +78,8 @@ def scripts() -> Iterator[Judged]:
         words = case_loop.words(case / "args")
         given, expected = case_loop.given(case / "stdin"), case_loop.given(case / "stdout")
         if words[:1] != ["script"] or not expected or len(given) > 100_000 or b"Usage" in expected:
+            continue
+        if "--objects" in words:  # tests/objects.py compares walks of objects of a file
             continue
         concurrency, model, budget = options(words)
         events: List[Event] = []

@@ -4,7 +4,7 @@ from __future__ import annotations
 import pathlib
 from typing import List, Optional, Tuple
 
-from python.jepmon.edn import Reader, Value, fields_of, string
+from jepmon.edn import Reader, Value, fields_of, string
 
 TABLE = pathlib.Path(__file__).resolve().parent.parent / "objects" / "refused.edn"
 OBJECT = "{:object :o :state {:n 0} :ops {:a {}}}"

@@ -6,7 +6,7 @@ import random
 import unittest
 from typing import List
 
-from python.jepmon.edn import Many, Reader, Value, fields_of, integer, keyword
+from jepmon.edn import Many, Reader, Value, fields_of, integer, keyword
 
 from .own_reader import Object, Refused, load
 from .own_rules import GREATEST, LEAST, Event, Found, Part, State, outcome_of, verdict

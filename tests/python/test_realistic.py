@@ -33,7 +33,7 @@ OBJECTS = {
 }
 # Of other objects.
 OTHERS = {
-    "judge/bank": ":transfer is an operation of a bank", "judge/counter": "are a counter, which jepmon does not judge",
+    "judge/bank": ":transfer is an operation of a bank", "judge/counter": "are a counter, which jepmon judges only by its rules",
     "judge/maelstrom_broadcast": ":broadcast is an operation of a broadcast", "judge/multi_register": "several registers at once",
     "judge/porcupine_kv_appends": ":append is an operation of appends", "from-jepsen/transaction": "Elle",
 }

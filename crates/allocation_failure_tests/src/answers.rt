@@ -6,20 +6,20 @@ use models::Found;
 use std::fmt;
 use test_store::Outcome;
 
-/// What a call answers.
+/// The answer of a call.
 #[derive(Clone, Copy, PartialEq, Eq)]
 pub enum Answer {
     /// A verdict.
     Legal,
     Illegal(u16, u32),
     Unknown(u16, u32),
-    /// The operation of this ticket was drawn, whose invocation has this index.
+    /// An operation was drawn: its ticket, and the index of its invocation.
     Drawn(u32, u32),
     /// Whether the store carried an operation out.
     Served(bool),
     /// A number: of elements, of bytes or of events.
     Number(u64),
-    /// Whatever else.
+    /// Any other answer.
     Other,
 }
 
@@ -33,7 +33,7 @@ pub struct Seen {
     pub bytes: u64,
 }
 
-/// Where nothing is seen.
+/// The state of a subject in which nothing is visible.
 pub const NOTHING: Seen = Seen {
     verdict: Answer::Other,
     commit: 0,
@@ -42,7 +42,7 @@ pub const NOTHING: Seen = Seen {
     bytes: 0,
 };
 
-/// A verdict.
+/// Returns a verdict as plain data.
 pub fn said_of(verdict: &Verdict) -> Answer {
     match verdict {
         Verdict::Legal => Answer::Legal,
@@ -51,7 +51,7 @@ pub fn said_of(verdict: &Verdict) -> Answer {
     }
 }
 
-/// A reply.
+/// Returns a reply as plain data.
 pub fn reply_said(reply: &Reply) -> Answer {
     match reply {
         Reply::Verdict(verdict) => said_of(verdict),

@@ -1,4 +1,4 @@
-//! A board of one seat, on which each command is called.
+//! A board of one seat, which calls each command.
 ghost use Rattle.std.specs.Prelude.{◌≡◌, IfOk};
 
 use crate::answers::{Answer, NOTHING, Seen, reply_said, said_of};
@@ -17,7 +17,7 @@ use std::marker::Brand;
 use std::sync::Wait;
 use test_store::Mode;
 
-// A board, its one seat, and the ticket that was drawn last.
+// A board, its one seat, and the last drawn ticket.
 #[derive(Drop)]
 struct Seated<'a, B: Tag, R> {
     rt: &'a R,
@@ -35,7 +35,7 @@ fn append(kind: EventKind, process: u32, key: Key, name: Name, part: Part) -> Co
     })
 }
 
-// The command of this number, which may name the ticket that was drawn last.
+// Returns command `number`, which may name the last drawn ticket. `None` if there is no such command.
 fn command_of(number: u32, ticket: u32) -> Option<Command> {
     Some(match number {
         0 => Command::Verdict,
@@ -91,14 +91,14 @@ impl<'a, B: Tag, R: Wait> Subject for Seated<'a, B, R> {
     }
 }
 
-// A fault that is due at once.
+// Returns a fault that is due at once.
 fn due_at_once(alloc: Global) -> Result<Schedule, AllocError> {
     let alone = vec![in alloc; 0u8]?;
     let groups = Groups::new(vec![in alloc; alone]?);
     Ok(Schedule::new(vec![in alloc; (0, Fault::Partition(groups))]?))
 }
 
-// Ten operations on one key, a fault, and one seat.
+// Returns the parts of a board with one seat, ten operations on one key, and a fault.
 fn blank_of(alloc: Global) -> Result<Blank, Refusal>
     ensures { IfOk result (λ blank. blank.seats ≡ 1) }
 {
@@ -118,7 +118,7 @@ fn blank_of(alloc: Global) -> Result<Blank, Refusal>
     Blank::new(alloc, config, 1)
 }
 
-// Makes the calls on a board that is opened by its tag. Why it was not opened, if it was not.
+// Makes the calls on a board that is opened by its tag. Returns the refusal if it was not opened.
 fn print_on<B: Tag, R: Wait + Print>(rt: &R, blank: Blank) -> io::Result<Option<Refusal>>
     requires names { (blank.word ≡ B.word) × (blank.ledger.name ≡ B.name)
         × (blank.ledger.parts ≡ B.parts) }
@@ -145,7 +145,7 @@ fn print_on<B: Tag, R: Wait + Print>(rt: &R, blank: Blank) -> io::Result<Option<
     Ok(None)
 }
 
-// Opens a board and makes its calls. Why it was not opened, if it was not.
+// Opens a board and makes its calls. Returns the refusal if it was not opened.
 fn print_opened<R: Wait + Print>(rt: &R, alloc: Global) -> io::Result<Option<Refusal>> {
     match blank_of(alloc) {
         Ok(blank) => print_on::<Brand, R>(rt, blank),
@@ -153,7 +153,7 @@ fn print_opened<R: Wait + Print>(rt: &R, alloc: Global) -> io::Result<Option<Ref
     }
 }
 
-/// Opens a board, at the second try if the first ran out of memory, and makes its calls.
+/// Opens a board, at the second try if the first one ran out of memory, and makes its calls.
 pub fn print_board_calls<R: Wait + Print>(rt: &R, alloc: Global) -> io::Result<()> {
     let refused = match print_opened(rt, alloc)? {
         Some(Refusal::NoMemory) => {

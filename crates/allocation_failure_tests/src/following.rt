@@ -1,22 +1,22 @@
-//! Calls in turn, each once more if it ran out of memory.
+//! Calls one after another, each of which is repeated once if it ran out of memory.
 
 use crate::answers::{Answer, Seen};
 use edn::Refusal;
 use std::io;
 
-/// What is called.
+/// The subject of the calls.
 pub trait Subject {
-    /// Makes the call of this number, from 0 on: its answer, or none if there is no such call.
+    /// Makes call `number`, from 0 on, and returns its answer. `None` if there is no such call.
     fn call(&mut self, number: u32) -> Option<Result<Answer, Refusal>>;
 
-    /// Its visible state.
+    /// Returns the visible state of the subject.
     fn seen(&mut self) -> Seen;
 }
 
-// Calls at most.
+// The maximum number of calls.
 const CALLS: u32 = 64;
 
-/// Makes the calls of a subject that was opened, in turn.
+/// Makes the calls of a subject that was opened, one after another.
 pub fn print_opened<S: Subject + Drop, R: Print>(
     rt: &R,
     opened: Result<S, Refusal>,
@@ -27,7 +27,7 @@ pub fn print_opened<S: Subject + Drop, R: Print>(
     }
 }
 
-/// Makes the calls of a subject in turn.
+/// Makes the calls of a subject, one after another.
 pub fn print_each<S: Subject, R: Print>(rt: &R, subject: &mut S) -> io::Result<()> {
     for number in 0..CALLS {
         let Some(answer) = answer_of(rt, subject, number)? else {
@@ -42,7 +42,7 @@ pub fn print_each<S: Subject, R: Print>(rt: &R, subject: &mut S) -> io::Result<(
     Ok(())
 }
 
-// The answer of the call of this number, at the second try if the first ran out of memory.
+// Returns the answer of call `number`, at the second try if the first one ran out of memory.
 fn answer_of<S: Subject, R: Print>(
     rt: &R,
     subject: &mut S,
@@ -62,7 +62,7 @@ fn answer_of<S: Subject, R: Print>(
     }
 }
 
-/// Tells what one call answered.
+/// Prints the answer of one call.
 pub fn print_answer<R: Print>(rt: &R, answer: Result<Answer, Refusal>) -> io::Result<()> {
     match answer {
         Ok(said) => println!(rt; "{said}"),

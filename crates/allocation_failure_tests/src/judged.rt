@@ -1,4 +1,4 @@
-//! A monitor, whose calls are those of a script.
+//! A monitor that gets the steps of scripts.
 
 use crate::answers::{Answer, Seen, said_of};
 use crate::following::Subject;
@@ -10,32 +10,32 @@ use monitor::Monitor;
 use report::report;
 use std::alloc::Global;
 
-/// A step of a script. Events are of a process and of an operation.
+/// A step of a script. An event is given by its process and its operation, and a kind by its name.
 #[derive(Clone, Copy)]
 pub enum Step {
     Invoke(u32, Key, Name, Option<i64>),
     Ok(u32, Key, Name, Option<i64>),
     Cas(EventKind, u32, Key),
-    Model(Key, ModelKind),
+    Model(Key, &'static str),
     Budget(Key, u32),
     Rewind(u32),
     Report,
 }
 
-/// A key that changes its kind, twice.
+/// The steps in which a key changes its kind twice.
 pub const MODELS: &[Step] = &[
     Step::Invoke(0, 7, Name::Write, Some(1)),
     Step::Ok(0, 7, Name::Write, Some(1)),
     Step::Cas(EventKind::Invoke, 0, 7),
     Step::Cas(EventKind::Ok, 0, 7),
-    Step::Model(7, ModelKind::CasRegister),
-    Step::Model(7, ModelKind::Register),
+    Step::Model(7, "cas-register"),
+    Step::Model(7, "register"),
     Step::Report,
 ];
 
-/// A key that has five ends just before an ok, by budgets of four and five.
+/// The steps in which a key has five ends just before an ok, with budgets of four and five.
 pub const BUDGETS: &[Step] = &[
-    Step::Model(1, ModelKind::FifoQueue),
+    Step::Model(1, "fifo-queue"),
     Step::Budget(1, 5),
     Step::Invoke(0, 1, Name::Enqueue, Some(5)),
     Step::Invoke(1, 1, Name::Enqueue, Some(6)),
@@ -46,9 +46,9 @@ pub const BUDGETS: &[Step] = &[
     Step::Report,
 ];
 
-/// One key is over budget and another is illegal. A rewind removes the illegal one.
+/// The steps in which one key is over budget and another one is illegal, and a rewind removes the illegal one.
 pub const REWINDS: &[Step] = &[
-    Step::Model(1, ModelKind::FifoQueue),
+    Step::Model(1, "fifo-queue"),
     Step::Budget(1, 5),
     Step::Invoke(0, 1, Name::Enqueue, Some(5)),
     Step::Invoke(1, 1, Name::Enqueue, Some(6)),
@@ -71,7 +71,7 @@ pub struct Judged {
     text: Vec<u8>,
 }
 
-// An event of an operation whose part is an integer, or nil.
+// Returns an event of an operation whose part is an integer or nil.
 fn event(kind: EventKind, process: u32, key: Key, name: Name, part: Part) -> Event {
     Event {
         index: None,
@@ -98,7 +98,7 @@ impl Judged {
         })
     }
 
-    // The result of a step: a verdict, or for a report the length of the text.
+    // Returns the answer of a step: a verdict, or the length of the text for a report.
     fn take(&mut self, step: Step) -> Result<Answer, Refusal> {
         let verdict = match step {
             Step::Invoke(process, key, name, value) => {
@@ -113,7 +113,10 @@ impl Judged {
                 let event = event(kind, process, key, Name::Cas, Part::Pair(1, 2));
                 self.monitor.append(event)?
             }
-            Step::Model(key, kind) => self.monitor.set_model(key, kind)?,
+            Step::Model(key, name) => {
+                let kind = ModelKind::of_name(name).ok_or(Refusal::BadValue)?;
+                self.monitor.set_model(key, kind)?
+            }
             Step::Budget(key, budget) => self.monitor.set_budget(key, budget)?,
             Step::Rewind(kept) => self.monitor.rewind(kept)?,
             Step::Report => {

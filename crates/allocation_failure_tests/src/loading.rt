@@ -19,7 +19,7 @@ fn event(kind: EventKind, key: Key, name: Name, part: Part) -> Event {
     }
 }
 
-// The read of key 0 is right, and that of key 1 is not.
+// Returns a history in which the read of key 0 is right, and that of key 1 is wrong.
 fn history_of(alloc: Global) -> Result<History, Refusal> {
     let mut history = History::new(alloc, 2)?;
     for key in 0..2 {
@@ -32,7 +32,7 @@ fn history_of(alloc: Global) -> Result<History, Refusal> {
     Ok(history)
 }
 
-/// The verdict on a history that is loaded by two workers.
+/// Returns the verdict on a history that two workers load.
 pub fn load<R: Threads + Sync>(rt: &R, alloc: Global) -> Result<Answer, Refusal> {
     let history = history_of(alloc)?;
     let monitor = Monitor::load(rt, alloc, history, ModelKind::Register, 4096, 2, &OpenGate)?;

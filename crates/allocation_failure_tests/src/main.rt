@@ -1,6 +1,6 @@
-//! Calls that are made one by one, each once more if it ran out of memory: for runs in which each allocation is refused in turn
-//! (`tests/refused.py`). A line for each call has the answer and the visible state then. A call that ran out of memory has a line before
-//! that, `no memory` if the visible state is as before and `changed` if it is not.
+//! Calls one after another, each of which is repeated once if it ran out of memory. In runs of this program each allocation is refused once
+//! (`tests/refused.py`). A line for each call has the answer and then the visible state. If a call ran out of memory, there is an
+//! additional line before its line: `no memory` if the visible state is as before, and otherwise `changed`.
 #![tactic(auto)]
 
 mod answers;
@@ -36,7 +36,7 @@ refusals board: a board of one seat, with each command
 refusals load: a history that is loaded by two workers
 refusals trial: a run of two clients and the nemesis";
 
-// The answer of a call, at the second try if the first ran out of memory.
+// Returns the answer of the call, at the second try if the first one ran out of memory.
 macro_rules! twice {
     ($rt:ident, $call:expr) => {
         match $call {
@@ -49,12 +49,12 @@ macro_rules! twice {
     };
 }
 
-// The words after the program's name.
+// Returns the words after the program's name.
 fn rest_of(alloc: Global, words: Args) -> Result<Vec<String>, AllocError> {
     words.skip(1).collect(alloc)
 }
 
-// Calls what this word names.
+// Makes the calls that this word names.
 fn print_named<R: Threads + Wait + Print + Sync>(
     rt: &R,
     alloc: Global,

@@ -1,4 +1,4 @@
-//! Events of texts, and a history of them.
+//! Events in texts, and a history of them.
 
 use crate::answers::{Answer, NOTHING, Seen};
 use crate::following::Subject;
@@ -7,7 +7,7 @@ use events::from_edn;
 use history::History;
 use std::alloc::Global;
 
-// Elements that spell events, or none; not all of them may come where they stand.
+// A text of elements. Some spell no event, and some events are refused at their place.
 const TEXT: &[u8] = b"
 {:type :invoke, :process 0, :f :write, :value [7 3]}
 {:type :invoke, :process 0, :f :read, :value [7 nil]}
@@ -19,10 +19,10 @@ const TEXT: &[u8] = b"
 7
 ";
 
-// How many elements that are.
+// The number of elements in the text.
 const ELEMENTS: u32 = 8;
 
-/// Spells and pushes each element, then makes the elements of the events, finds those of a key, and cuts.
+/// A subject that reads and pushes each element, then makes the elements of the events, counts the events of a key, and cuts.
 #[derive(Drop)]
 pub struct Recorded {
     alloc: Global,
@@ -39,7 +39,7 @@ impl Recorded {
         })
     }
 
-    // Pushes the event that the element at this place spells.
+    // Pushes the event that the element at index `place` spells.
     fn push(&mut self, place: usize) -> Option<Result<Answer, Refusal>> {
         let element = self.elements.get(place)?;
         Some(match from_edn(self.alloc, element) {
@@ -51,7 +51,7 @@ impl Recorded {
         })
     }
 
-    // Whether the element of the event of this index was made.
+    // Returns whether the element of the event with this index was made.
     fn spell(&self, index: u32) -> Option<Result<Answer, Refusal>> {
         if index >= self.history.len() {
             return None;
@@ -62,7 +62,7 @@ impl Recorded {
         })
     }
 
-    // How many events a key has.
+    // Returns the number of events of a key.
     fn count(&self) -> Result<Answer, Refusal> {
         let events = self.history.events_of(9)?;
         Ok(Answer::Number(events.len() as u64))

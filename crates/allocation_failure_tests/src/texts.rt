@@ -6,7 +6,7 @@ use edn::{Edn, Elements, Refusal, check_text, read_all};
 use edn_writer::{in_profile, write};
 use std::alloc::Global;
 
-// Texts, some of which can't be read.
+// Texts, some of which cannot be read.
 const TEXTS: [&[u8]; 10] = [
     b"007",
     b"-9223372036854775809",
@@ -20,7 +20,7 @@ const TEXTS: [&[u8]; 10] = [
     b"#_ #_ 1 2",
 ];
 
-/// Reads each text, then each element of it by itself, then writes its elements.
+/// A subject that reads each text, then each of its elements separately, and then writes its elements.
 #[derive(Drop)]
 pub struct Texts {
     alloc: Global,
@@ -35,7 +35,7 @@ impl Texts {
         }
     }
 
-    // Appends the text of each element, or of none.
+    // Appends the text of each element. If one fails, appends none.
     fn write_all(&mut self, elements: &[Edn]) -> Result<Answer, Refusal> {
         let before = self.written.len();
         for element in elements {
@@ -51,7 +51,7 @@ impl Texts {
     }
 }
 
-// How many elements there are, each taken by itself.
+// Returns the number of elements, which are read one after another.
 fn count_elements(alloc: Global, bytes: &[u8]) -> Result<Answer, Refusal> {
     let mut elements = Elements::new(bytes);
     let mut count: u64 = 0;

@@ -11,7 +11,7 @@ use std::sync::Wait;
 use std::thread::Threads;
 use test_store::Mode;
 
-// Six operations on one key of a strict store, and faults.
+// The plan of six operations on one key of a strict store, with faults.
 const PLAN: RunPlan = RunPlan {
     seed: 1,
     operations: 6,
@@ -21,7 +21,7 @@ const PLAN: RunPlan = RunPlan {
     has_faults: true,
 };
 
-/// The verdict on a run, which is legal, since the store is strict.
+/// Returns the verdict on a run, which is legal since the store is strict.
 pub fn run<R: Threads + Wait + Sync>(rt: &R, alloc: Global) -> Result<Answer, Refusal> {
     let judging = Config::judging_only(alloc, 2, ModelKind::Register, 4096);
     let core = run_trial(rt, alloc, PLAN.config(alloc, judging)?, NoWatch)?;

@@ -1,4 +1,4 @@
--- Promise: a queue without an order, by how often each value was enqueued and dequeued (this project's own)
+-- Promise: a queue without an order, judged by how often each value was enqueued and dequeued (this project's own)
 use Rattle.std.specs.Prelude.{◌≡◌, ℕ, ◌<◌, ◌≤◌, ℤ, Bool, true, false, not, ◌&&◌, nat_eq, List, ◌++◌}
 use Rattle.std.specs.List.{count_by, list_any}
 use Rattle.std.specs.Ordering.{int_eq}
@@ -12,7 +12,7 @@ use Rattle.events.specs.Events.{Mark}
 use Rattle.events.specs.Events.Mark.{Invoked, Returned, Failed}
 use Rattle.bag_matches.specs.Matches.{IsEnqueueOf, AreKnown}
 
--- the mark is the fail of the operation
+-- the mark is a fail of the operation
 abbrev pub is_fail_of : ℕ → Mark → Bool
 is_fail_of id (Failed n) = nat_eq n id
 is_fail_of id _ = false
@@ -21,7 +21,7 @@ abbrev pub is_dequeue : Name → Part → Bool
 is_dequeue Dequeue Nil = true
 is_dequeue _ _ = false
 
--- the mark is the invocation of the operation, which is a dequeue
+-- the mark is the invocation of this operation, a dequeue
 abbrev pub invokes_dequeue : ℕ → Mark → Bool
 invokes_dequeue id (Invoked n op) = nat_eq n id && is_dequeue op.name op.part
 invokes_dequeue id _ = false
@@ -43,7 +43,7 @@ enqueued marks v front = count_by (puts marks v) front
 abbrev pub dequeued : List Mark → ℤ → List Mark → ℕ
 dequeued marks v front = count_by (takes marks v) front
 
--- at each time each value was dequeued at most as often as it was enqueued
+-- at each time, each value was dequeued at most as often as it was enqueued
 pub record IsBalanced (marks : List Mark) : Type 0 where
   pub known : AreKnown marks
   pub covered : (v : ℤ) (front rest : List Mark) → front ++ rest ≡ marks
@@ -53,7 +53,7 @@ pub record IsBalanced (marks : List Mark) : Type 0 where
 abbrev pub MayDequeue : List Mark → ℤ → Type 0
 MayDequeue marks v = dequeued marks v marks < enqueued marks v marks
 
--- an open operation may fail now: where it enqueues v, ever since then v was enqueued more often than dequeued
+-- an open operation may fail now: if it enqueues v, then v was enqueued more often than dequeued at each time from then on
 abbrev pub MayFail : List Mark → ℕ → Type 0
 MayFail marks id = (v : ℤ) (front rest : List Mark) → front ++ rest ≡ marks → IsEnqueueOf front id v
     → dequeued marks v front < enqueued marks v front

@@ -1,4 +1,4 @@
--- Promise: a queue without an order, where each dequeue has an enqueue of its own (this project's own)
+-- Promise: a queue without an order, in which each dequeue has its own enqueue (this project's own)
 use Rattle.std.specs.Prelude.{◌≡◌, ℕ, ℤ, ◌⊎◌, List}
 use Rattle.std.specs.List.{Contains}
 use Rattle.models.specs.declared.operation.Name.TheVariants.{Enqueue, Dequeue}
@@ -24,7 +24,7 @@ pub record HasDequeued (marks : List Mark) (id : ℕ) (v : ℤ) : Type 0 where
   pub of_any : op.part ≡ Nil
   pub answer : Contains marks (Returned id (Number v))
 
--- the enqueue may have put in the v that the dequeue found: it has not failed, and the dequeue does not precede it
+-- the enqueue may have enqueued the v that the dequeue found: the enqueue has not failed, and the dequeue does not precede it
 pub record MayServe (marks : List Mark) (enqueue dequeue : ℕ) (v : ℤ) : Type 0 where
   pub enqueues : IsEnqueueOf marks enqueue v
   pub not_failed : ¬ Contains marks (Failed enqueue)
@@ -37,7 +37,7 @@ AreKnown marks = (id : ℕ) → HasReturned marks id
 
 pub record IsMatched (marks : List Mark) : Type 0 where
   pub known : AreKnown marks
-  -- the enqueue of a done dequeue may serve it, and serves no other
+  -- `source` gives each done dequeue an enqueue that may serve it, and serves no other dequeue
   pub source : ℕ → ℕ
   pub serves : (id : ℕ) (v : ℤ) → HasDequeued marks id v → MayServe marks (source id) id v
   pub once : (a b : ℕ) (v w : ℤ) → HasDequeued marks a v → HasDequeued marks b w → source a ≡ source b

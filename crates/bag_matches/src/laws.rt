@@ -1,4 +1,4 @@
-//! Laws of the history of a queue without an order by its values.
+//! Laws about the history of an unordered queue, by its values.
 ghost use Rattle.std.specs.Prelude.{◌≡◌, ◌↔◌, ℕ, ℤ, List, [], ◌∷◌, ◌++◌};
 ghost use Rattle.std.specs.List.{Contains};
 ghost use Rattle.models.specs.Objects.{unordered_queue};
@@ -15,8 +15,8 @@ ghost use Rattle.linspec.specs.Verdicts.{EndsShortestBadPrefix};
 ghost use Rattle.bag_matches.specs.Matches.{IsMatched, IsEnqueueOf};
 ghost use Rattle.bag_matches.specs.Counts.{IsBalanced, MayDequeue, MayFail};
 
-/// A history of a queue without an order is linearizable exactly if it is matched: each done dequeue has an enqueue of its own. Such
-/// enqueues are there exactly if the history is balanced. The same holds of the history of one key.
+/// In a matched history each dequeue that has returned has an enqueue of its own. A history of an unordered queue is linearizable if and
+/// only if it is matched. Such enqueues exist if and only if the history is balanced. The same holds for the history of one key.
 pub fn matches_law()
     ensures linearizable { (marks : List Mark) → AreWellFormed marks
         → IsLinearizable unordered_queue marks → IsMatched marks }
@@ -28,14 +28,15 @@ pub fn matches_law()
         ↔ IsMatched (marks (of_key k entries)) }
 {}
 
-/// The ok of an enqueue keeps a history matched, whatever it answers.
+/// A matched history stays matched after the ok of an enqueue, whatever its answer.
 pub fn ok_of_enqueue_law()
     ensures { (marks : List Mark) (id : ℕ) (v : ℤ) (answer : Answer) →
         AreWellFormed (marks ++ Returned id answer ∷ []) → IsEnqueueOf marks id v → IsMatched marks
         → IsMatched (marks ++ Returned id answer ∷ []) }
 {}
 
-/// A history is matched with the ok of a dequeue exactly if it was matched before, the answer is a value, and a dequeue may take it now.
+/// After the ok of a dequeue a history is matched under three conditions, and only then. It was matched before, the answer is a value, and
+/// a dequeue may take this value now.
 pub fn ok_of_dequeue_law()
     ensures value { (marks : List Mark) (id : ℕ) (op : Op) (v : ℤ) →
         AreWellFormed (marks ++ Returned id (Number v) ∷ []) → Contains marks (Invoked id op)
@@ -48,8 +49,8 @@ pub fn ok_of_dequeue_law()
         → ¬ IsMatched (marks ++ Returned id answer ∷ []) }
 {}
 
-/// An invocation and an info change nothing. A history is matched with a fail exactly if it was matched before and the operation may fail
-/// now.
+/// An invocation and an info do not change whether a history is matched. After a fail a history is matched if and only if it was matched
+/// before and the operation may fail now.
 pub fn other_events_law()
     ensures invoke { (marks : List Mark) (id : ℕ) (op : Op) →
         AreWellFormed (marks ++ Invoked id op ∷ [])
@@ -60,7 +61,7 @@ pub fn other_events_law()
         → IsMatched (marks ++ Failed id ∷ []) ↔ (IsMatched marks × MayFail marks id) }
 {}
 
-/// The history of a queue without an order becomes illegal at the event at which it stops being matched.
+/// The history of an unordered queue becomes illegal at the event at which it stops being matched.
 pub fn illegal_at_law()
     ensures { (entries : List Entry) (last : Entry) → AreWellFormed (marks entries)
         → EndsShortestBadPrefix unordered_queue entries last

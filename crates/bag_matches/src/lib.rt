@@ -1,6 +1,6 @@
-//! Laws of queues without an order: which values were enqueued and dequeued, and when, decides whether a history of such a queue is
-//! linearizable. No order has to be tried, and equal values make no difference. They say so of a whole history, of each event that it
-//! may get, and of the event at which it becomes illegal.
+//! Laws about unordered queues: the enqueued and dequeued values and their times decide whether a history of such a queue is linearizable.
+//! No order has to be tried, and equal values make no difference. The laws are about a whole history, about each event that it may get, and
+//! about the event at which it becomes illegal.
 #![tactic(auto)]
 
 pub mod laws;

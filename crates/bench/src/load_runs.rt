@@ -1,4 +1,4 @@
-//! Loads of a whole history by workers, and how long they take.
+//! Loads of a whole history by workers, with their times.
 ghost use Rattle.std.specs.Prelude.{◌≤◌};
 
 use edn::{OpenGate, Refusal};
@@ -13,14 +13,14 @@ use std::rt::Clock;
 use std::thread::Threads;
 use std::time::{Duration, Instant};
 
-// Ten keys, on each of which six clients write at once: 60 threads in all.
+// The number of keys. Six clients write to each of them at once: 60 threads in all.
 const KEYS: Key = 10;
 
 const CLIENTS: u32 = 6;
 
 const THREADS: u32 = 60;
 
-// A client's write of its own value.
+// Returns a client's write of its own value.
 fn event_of(key: Key, client: u32, kind: EventKind) -> Event {
     let process = u32::from(key)
         .saturating_mul(CLIENTS)
@@ -37,7 +37,7 @@ fn event_of(key: Key, client: u32, kind: EventKind) -> Event {
     }
 }
 
-// An event of each client.
+// Pushes an event of each client.
 fn push_each(history: &mut History, kind: EventKind) -> Result<(), Refusal> {
     for key in 0..KEYS {
         for client in 0..CLIENTS {
@@ -47,7 +47,7 @@ fn push_each(history: &mut History, kind: EventKind) -> Result<(), Refusal> {
     Ok(())
 }
 
-// In each round all clients invoke, and then each is answered.
+// Returns a history of `rounds` rounds. In each round all clients invoke, and then each is answered.
 fn history_of(alloc: Global, rounds: u32) -> Result<History, Refusal> {
     let mut history = History::new(alloc, THREADS)?;
     for _ in 0..rounds {
@@ -57,7 +57,7 @@ fn history_of(alloc: Global, rounds: u32) -> Result<History, Refusal> {
     Ok(history)
 }
 
-// The time of a load by this number of workers. None if it was refused.
+// Returns the time of a load by `workers` workers, or `None` if it was refused.
 fn load<R: Threads + Clock + Sync>(
     rt: &R,
     alloc: Global,
@@ -82,8 +82,8 @@ fn load<R: Threads + Clock + Sync>(
     Some(length)
 }
 
-/// Prints the time to load a history of ten keys, on each of which six clients write at once in each round, by 1, 2 and 4 workers, in
-/// microseconds.
+/// Prints the time to load a history of ten keys by 1, 2 and 4 workers, in microseconds. Six clients write to each key at once in each
+/// round.
 pub fn print_loads<R: Threads + Clock + Print + Sync>(
     rt: &R,
     alloc: Global,

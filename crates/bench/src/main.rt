@@ -1,5 +1,5 @@
-//! Times a glance and a call from inside, on a board and under a plain lock, the commands of a trial, and loads by workers.
-//! Without arguments that it knows it only says how it is run.
+//! A program that measures from inside: glances and calls, on a board and under a plain lock; the commands of a trial; and loads by
+//! workers. Without a known argument it prints only how to run it.
 #![tactic(auto)]
 
 pub mod load_runs;
@@ -23,7 +23,7 @@ const USAGE: &str = "bench glance MILLISECONDS: times glances and calls, each fo
 bench trials ROUNDS: times draws, serves and completions, for so many rounds
 bench workers ROUNDS: times loads of a history of so many rounds, of 120 events each, by 1, 2 and 4 workers";
 
-// What was asked for.
+// The requested measurement.
 #[derive(Clone, Copy)]
 enum Wish {
     // Glances and calls, each for this number of milliseconds.
@@ -34,7 +34,7 @@ enum Wish {
     Loads(u32),
 }
 
-// The words after the program's name.
+// Returns the words after the program's name.
 fn rest_of(alloc: Global, words: Args) -> Result<Vec<String>, AllocError> {
     words.skip(1).collect(alloc)
 }

@@ -1,16 +1,16 @@
-//! The timed object: a monitor that many threads share.
+//! The measured object: a monitor that many threads share.
 use board::{Board, Seat, Tag};
 use harness::{Command, Core};
 use std::sync::{Mutex, Wait};
 
-/// A monitor that many threads share, each by a seat of its own.
+/// A monitor that many threads share. Each thread has a seat of its own.
 pub trait Monitor {
     type Seat;
 
-    /// Asks for the verdict that was last published, and says whether it came.
+    /// Asks for the last published verdict, and returns whether there is one.
     fn glance<R: Wait>(&self, rt: &R, seat: &mut Self::Seat) -> bool;
 
-    /// Carries out a command, and says whether it was answered.
+    /// Carries out a command, and returns whether it was answered.
     fn call<R: Wait>(&self, rt: &R, seat: &mut Self::Seat, command: Command) -> bool;
 }
 
@@ -26,7 +26,7 @@ impl<B: Tag> Monitor for Board<B> {
     }
 }
 
-/// The same core under a lock, with no published copy: a glance takes the lock.
+/// A core under a lock, without a published copy: a glance takes the lock.
 impl Monitor for Mutex<Core> {
     type Seat = ();
 

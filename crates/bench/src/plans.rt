@@ -1,4 +1,4 @@
-//! What a run does.
+//! The plan of a run.
 use events::{Body, Event, EventKind, Process};
 use harness::Command;
 use models::{Name, Op, Part};
@@ -7,19 +7,19 @@ use std::time::Duration;
 /// The commands that one thread gives without pause.
 #[derive(Clone, Copy)]
 pub enum Calls {
-    /// It asks for the verdict.
+    /// Requests for the verdict.
     Verdicts,
-    /// It appends a write's invocation and its ok, in turn.
+    /// The invocations and the oks of writes, in alternation.
     Writes,
-    /// It appends reads, while six writes of different values stay open: each event has some 200 ends.
+    /// Reads, while six writes of different values stay open: each event has about 200 ends.
     Reads,
 }
 
-// How many writes stay open.
+// The number of writes that stay open.
 const OPEN: u32 = 6;
 
 impl Calls {
-    /// The command after `after` others.
+    /// Returns the command after `after` earlier commands.
     pub fn command(self, after: u64) -> Command {
         match self {
             Calls::Verdicts => Command::Verdict,
@@ -37,7 +37,7 @@ impl Calls {
         }
     }
 
-    /// Its name in a table.
+    /// Returns the name of the commands in a table.
     pub fn name(self) -> &'static str {
         match self {
             Calls::Verdicts => "verdicts",
@@ -64,7 +64,7 @@ fn append(kind: EventKind, process: u32, name: Name, part: Part) -> Command {
     })
 }
 
-/// A run: how many threads glance, for how long, and what another thread calls meanwhile.
+/// A run: the number of threads that glance, the duration, and the calls that another thread makes at the same time.
 #[derive(Clone, Copy)]
 pub struct Plan {
     pub readers: u32,

@@ -1,4 +1,4 @@
-//! One run.
+//! The execution of one run.
 use crate::monitors::Monitor;
 use crate::plans::{Calls, Plan};
 use std::rt::Clock;
@@ -8,13 +8,13 @@ use std::thread;
 use std::thread::{Threads, join};
 use std::time::{Duration, Instant};
 
-// A thread looks at the clock after this number of glances.
+// The number of glances after which a thread looks at the clock.
 const BATCH: u64 = 100;
 
-// How often a thread that reads looks for the first call.
+// The maximum number of turns that a reading thread waits for the first call.
 const TURNS: u32 = 1_000_000;
 
-/// How often something was done, and for how long.
+/// The number of rounds of an action, and the time that they took.
 #[derive(Clone, Copy)]
 pub struct Count {
     pub rounds: u64,
@@ -22,7 +22,7 @@ pub struct Count {
 }
 
 impl Count {
-    /// The mean time of a round in tenths of a nanosecond; 0 if there was none.
+    /// Returns the mean time of a round in tenths of a nanosecond, or 0 if there was no round.
     pub fn tenths(self) -> u128 {
         let tenths = self.length.as_nanos().saturating_mul(10);
         tenths.checked_div(u128::from(self.rounds)).unwrap_or(0)
@@ -36,21 +36,21 @@ impl Count {
     }
 }
 
-/// The counts of one run, all readers together.
+/// The counts of one run, summed over all readers.
 #[derive(Clone, Copy)]
 pub struct Done {
     pub glances: Count,
     pub calls: Option<Count>,
 }
 
-// The messages between the two sides of a run.
+// Messages between the two sides of a run.
 #[derive(Drop)]
 struct Meeting {
     calling: AtomicBool,
     over: AtomicBool,
 }
 
-// Whether `rounds` glances were all answered.
+// Returns whether `rounds` glances were all answered.
 fn glance_often<M: Monitor, R: Wait>(rt: &R, monitor: &M, seat: &mut M::Seat, rounds: u64) -> bool {
     for _ in 0..rounds {
         if !monitor.glance(rt, seat) {
@@ -60,7 +60,7 @@ fn glance_often<M: Monitor, R: Wait>(rt: &R, monitor: &M, seat: &mut M::Seat, ro
     true
 }
 
-// Glances for so long; None if one was not answered.
+// Glances for `length`, and counts. `None` if a glance was not answered.
 fn count_glances<M: Monitor, R: Wait + Clock>(
     rt: &R,
     monitor: &M,
@@ -83,7 +83,7 @@ fn count_glances<M: Monitor, R: Wait + Clock>(
     None
 }
 
-/// Calls for so long on one thread alone; None if a call was not answered.
+/// Calls for `length` on one thread, without other threads, and counts. `None` if a call was not answered.
 pub fn count_calls<M: Monitor, R: Wait + Clock>(
     rt: &R,
     monitor: &M,
@@ -107,7 +107,7 @@ pub fn count_calls<M: Monitor, R: Wait + Clock>(
     None
 }
 
-// Calls until the readers are done.
+// Calls until the readers have ended.
 fn call_beside<M: Monitor, R: Wait + Clock>(
     rt: &R,
     monitor: &M,
@@ -175,7 +175,7 @@ fn sum_of(counts: Vec<Option<Count>>) -> Option<Count> {
     Some(sum)
 }
 
-/// Carries out a plan, where there are seats for it; the last seat is the caller's.
+/// Carries out a plan, if there are enough seats for it. The last seat is the caller's.
 pub fn run_plan<M: Monitor + Sync, R: Threads + Wait + Clock + Sync>(
     rt: &R,
     monitor: &M,

@@ -13,12 +13,12 @@ use std::sync::{Mutex, Wait};
 use std::thread::Threads;
 use std::time::Duration;
 
-// How a core is opened here.
+// Returns the configuration of the measured core.
 fn opened(alloc: Global) -> Config {
     Config::judging_only(alloc, 8, ModelKind::Register, 4096)
 }
 
-/// A run on a board.
+/// Carries out a plan on a board.
 pub fn on_board<R: Threads + Wait + Clock + Sync>(
     rt: &R,
     alloc: Global,
@@ -43,7 +43,7 @@ fn run_on<B: Tag + Send + Sync, R: Threads + Wait + Clock + Sync>(
     done
 }
 
-/// Calls alone, by one seat of a board with this number of seats.
+/// Calls without other threads, by one seat of a board with `seats` seats.
 pub fn calls_on_board<R: Wait + Clock>(
     rt: &R,
     alloc: Global,
@@ -78,7 +78,7 @@ fn locked(alloc: Global) -> Option<Mutex<Core>> {
     Some(Mutex::new(Core::new(alloc, opened(alloc)).ok()?))
 }
 
-/// A run under a lock.
+/// Carries out a plan under a lock.
 pub fn under_lock<R: Threads + Wait + Clock + Sync>(
     rt: &R,
     alloc: Global,
@@ -92,7 +92,7 @@ pub fn under_lock<R: Threads + Wait + Clock + Sync>(
     run_plan(rt, &monitor, seats, plan)
 }
 
-/// Calls alone, under a lock.
+/// Calls without other threads, under a lock.
 pub fn calls_under_lock<R: Wait + Clock>(
     rt: &R,
     alloc: Global,

@@ -1,4 +1,4 @@
-//! The printed figures, a line each, in nanoseconds.
+//! The printed figures, one in each line, in nanoseconds.
 use crate::plans::{Calls, Plan};
 use crate::runs::{Count, Done};
 use crate::setups::{calls_on_board, calls_under_lock, on_board, under_lock};
@@ -12,7 +12,7 @@ use std::{fmt, io};
 
 const KINDS: [Calls; 3] = [Calls::Verdicts, Calls::Writes, Calls::Reads];
 
-// A mean time in nanoseconds, or `-`.
+// A mean time in nanoseconds, printed as `-` if there is none.
 #[derive(Clone, Copy)]
 struct Mean(Option<Count>);
 
@@ -28,8 +28,8 @@ impl Display for Mean {
     }
 }
 
-/// Prints the mean times of glances and calls, on a board and under a lock, and of calls on boards of more seats. Each run
-/// lasts so long.
+/// Prints the mean times of glances and calls, on a board and under a lock, and of calls on boards with more seats. Each run lasts
+/// `length`.
 pub fn print_table<R: Threads + Wait + Clock + Print + Sync>(
     rt: &R,
     alloc: Global,

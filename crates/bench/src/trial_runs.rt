@@ -1,4 +1,4 @@
-//! Trials on one core without faults, and how long their commands take.
+//! Trials on one core without faults, with the times of their commands.
 use crate::runs::Count;
 use edn::Refusal;
 use generators::{Cycle, Gen, Item};
@@ -15,10 +15,10 @@ use test_store::Mode;
 
 const THREADS: usize = 8;
 
-// How many keys clients go on with.
+// The number of keys that clients use after the first writes.
 const KEYS: u16 = 64;
 
-// An operation of each of `keys` keys, in turn.
+// Returns a generator of one operation on each of `keys` keys, in order.
 fn on_each(alloc: Global, keys: u16, name: Name, part: Part) -> Result<Gen, AllocError> {
     let mut items = Vec::new(alloc);
     for key in 0..keys {
@@ -28,7 +28,7 @@ fn on_each(alloc: Global, keys: u16, name: Name, part: Part) -> Result<Gen, Allo
     Ok(Gen::Ops(Cycle::new(items)))
 }
 
-// A write of each of `touched` keys first; then reads and writes of 64 keys, at random.
+// Returns a generator of a write to each of `touched` keys, and then of reads and writes of 64 keys, at random.
 fn generator(alloc: Global, touched: u16) -> Result<Gen, AllocError> {
     let first = on_each(alloc, touched, Name::Write, Part::Int(1))?;
     let first = Gen::Limit(u64::from(touched), Box::new(alloc, first)?);
@@ -56,7 +56,7 @@ fn opened(alloc: Global, replicas: u8, touched: u16) -> Result<Core, Refusal> {
 
 type Tickets = [u32; THREADS];
 
-// Each thread draws; None if one was given nothing.
+// Lets each thread draw. `None` if a thread was given nothing.
 fn draw_all(core: &mut Core) -> Option<Tickets> {
     let mut tickets = [0; THREADS];
     for thread in 0..THREADS {
@@ -93,7 +93,7 @@ impl Display for Mean {
     }
 }
 
-// How long draws, serves and completions took.
+// The times of draws, serves and completions.
 #[derive(Clone, Copy)]
 struct Spent {
     rounds: u64,
@@ -119,7 +119,7 @@ impl Spent {
         }
     }
 
-    // The mean of a command; each round has one command a thread.
+    // Returns the mean time of a command. Each round has one command for each thread.
     fn mean(self, length: Duration) -> Mean {
         Mean(Count {
             rounds: self.rounds.saturating_mul(THREADS as u64),
@@ -128,7 +128,7 @@ impl Spent {
     }
 }
 
-// Each thread draws, and then each serves, and then each finishes.
+// Lets each thread draw, then serves each operation, and then finishes each.
 fn round<R: Clock>(rt: &R, core: &mut Core) -> Option<Spent> {
     let begin = Instant::now(rt).ok()?;
     let tickets = draw_all(core)?;
@@ -147,7 +147,7 @@ fn round<R: Clock>(rt: &R, core: &mut Core) -> Option<Spent> {
     })
 }
 
-// So many rounds; None if a command was not answered.
+// Carries out `many` rounds. `None` if a command was not answered.
 fn rounds<R: Clock>(rt: &R, core: &mut Core, many: u32) -> Option<Spent> {
     let mut spent = NOTHING;
     for _ in 0..many {
@@ -156,7 +156,7 @@ fn rounds<R: Clock>(rt: &R, core: &mut Core, many: u32) -> Option<Spent> {
     Some(spent)
 }
 
-// Rounds on a core of `replicas` replicas, after each of `touched` keys was written.
+// Carries out `many` rounds on a core with `replicas` replicas, after a write to each of `touched` keys.
 fn trial<R: Clock>(rt: &R, alloc: Global, replicas: u8, touched: u16, many: u32) -> Option<Spent> {
     let mut core = opened(alloc, replicas, touched).ok()?;
     let before = u32::from(touched) / THREADS as u32 + 1;
@@ -164,8 +164,8 @@ fn trial<R: Clock>(rt: &R, alloc: Global, replicas: u8, touched: u16, many: u32)
     rounds(rt, &mut core, many)
 }
 
-/// Prints the mean times of draws, serves and completions, for stores of 3 and 7 replicas on which 1, 64 and 4,096 keys were written
-/// before; each over `many` rounds of 8 threads.
+/// Prints the mean times of draws, serves and completions over `many` rounds of 8 threads. The stores have 3 and 7 replicas, and 1, 64 and
+/// 4,096 keys were written before.
 pub fn print_trials<R: Clock + Print>(rt: &R, alloc: Global, many: u32) -> io::Result<()> {
     for replicas in [3u8, 7] {
         for touched in [1u16, 64, 4096] {

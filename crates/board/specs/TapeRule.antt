@@ -1,4 +1,4 @@
--- Invariant: the rule of the book, and the effects of its steps. A book may hold many tapes, each under the key of its word
+-- Invariant: the rule of the book, and the effects of its steps. A book may have many tapes, each under the key of its word
 use Rattle.std.specs.Prelude.{ℕ, ◌≡◌, ◌≢◌, ◌==◌, ◌+◌, Bool, true, false, Option, Some, None, List, [], ◌∷◌, ◌++◌, length}
 use mathlib.Core.List.{IsPrefix}
 use Rattle.logbook.specs.Pages.{Cell, cell, Step, View, nib, may_make}
@@ -35,22 +35,22 @@ next_of tape (l ∷ ls) = later (next_of tape ls) (l.tape == tape) l.next
 abbrev pub IsHome : List Cell → ℕ → Type 0
 IsHome cells key = (cell cells key).1 ≡ true
 
--- the word of a tape is at home once the tape has a line, and the cell that a line names once the tape has a later one
+-- the word of a tape is at home if the tape has a line. The cell that a line names is at home if the tape has a later line
 abbrev pub AreHome : {E : Type 0} → List Cell → List (BookLine E) → Type 0
 AreHome cells [] = Unit {0}
 AreHome cells (l ∷ ls) = IsHome cells l.tape × (tape_of l.tape ls ≢ [] → IsHome cells l.next) × AreHome cells ls
 
--- the first word, with which tapes begin, stays at home
+-- the first word, that of the first tape, stays at home
 pub record IsKept {E : Type 0} (cells : List Cell) (log : List (BookLine E)) : Type 0 where
   pub first : IsHome cells 0
   pub lines : AreHome cells log
 
--- from this log on the word is at home
+-- the word is at home in each log that begins with this one
 abbrev pub StaysHome : {E : Type 0} → List (BookLine E) → ℕ → Type 0
 StaysHome {E} seen key =
     (cells : List Cell) (log : List (BookLine E)) → IsKept cells log → IsPrefix seen log → IsHome cells key
 
--- there is a new cell, and the right to make its word
+-- there is a new cell, with the right to make its word
 abbrev pub Makes : {E : Type 0} → Step (BookLine E) → View (BookLine E) ℕ → ℕ → View (BookLine E) ℕ → Type 0
 Makes s v found w = (key : ℕ) × (w.1.0 ≡ nib may_make key 0)
 

@@ -1,4 +1,4 @@
-//! Any object's board before it has a name.
+//! A board of any object, before it has a name.
 ghost use Rattle.std.specs.Prelude.{◌≡◌, ◌⊎◌, ◌<◌, ◌≤◌, ◌∷◌, [], length, Some, IfOk, IfErr, OnOk, true, vec_capacity};
 ghost use Rattle.edn.specs.declared.refusal.Refusal.TheVariants.{NoMemory, NoSeat};
 ghost use Rattle.board.specs.declared.tape.TapeEntry.TheVariants.{Opening as an_opening};
@@ -24,8 +24,8 @@ use std::mem::ManuallyDrop;
 use std::sync::ledger::Share;
 use std::sync::{Mutex, ledger};
 
-/// A board before it has a name: the object, a tape without calls that opens on its state, and a ledger with a share for each seat. In
-/// addition to the object it takes no memory before `open`, and may be dropped.
+/// A board before it has a name. It has the object, a tape without calls that opens on the object's state, and a ledger with a share for
+/// each seat. Before `open` it takes no memory in addition to the object, and it may be dropped.
 #[derive(Drop)]
 pub struct Blank<X: OneThread> {
     pub object: X,
@@ -76,7 +76,7 @@ impl<X: OneThread> Blank<X> {
         }
     }
 
-    // The board and its seats, numbered from 0, which have seen the opening.
+    // Returns the board and its seats, which are numbered from 0 and have seen the opening.
     pub(crate) fn into_board<B: Tag>(self) -> Result<(Board<X, B>, Vec<Seat<X, B>>), Refusal>
         requires names { (self.word ≡ B.word) × (self.ledger.name ≡ B.name)
             × (self.ledger.parts ≡ B.parts) }
@@ -129,12 +129,12 @@ impl<X: OneThread> Blank<X> {
     }
 }
 
-// Lets a writer go that nobody reads from. Its end would wait for readers; so its memory stays taken.
+// Forgets a writer that has no readers, without its drop. The drop would wait for readers, so the memory is not freed.
 fn leak<W>(writer: W) {
     let _leaked = unsafe { ManuallyDrop::new_unchecked(writer) };
 }
 
-// Fills the seats, each with a reader's place.
+// Adds the seats, each with a place of a reader.
 fn seat_all<X: OneThread, B: Tag, T: HoldsPublished<Published<X, B>>>(
     factory: &Factory<T, (), Unruled>,
     published: &Published<X, B>,

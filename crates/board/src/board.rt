@@ -1,4 +1,4 @@
-//! The lock round any object, tied to the published copy by one tape.
+//! The lock around any object, tied to the published copy by one tape.
 ghost use Rattle.std.specs.Prelude.{◌≡◌, List, IfOk, IfErr};
 ghost use Rattle.board.specs.declared.tape.TapeEntry.{TapeEntry};
 ghost use Rattle.board.specs.Tape.{Leads, HasSeen, IsAnswered, IsRefused, IsTapeOf};
@@ -13,8 +13,9 @@ use edn::{Gate, Refusal};
 use std::marker::Model;
 use std::sync::{Mutex, MutexGuard, Wait};
 
-/// Any object's board: the lock round the object, and the word of the tape, which no lock guards. A call takes the lock. It costs what the
-/// object's `prepare` costs, two atomic steps, and a publication. It is linear: `end` takes it apart. Contracts see it as its opening.
+/// A board of any object: the lock around the object, and the word of the tape, which no lock guards. A call takes the lock. It costs what
+/// the object's `prepare` costs, two atomic steps, and a publication. A board is linear: only `end` takes it apart. In contracts, a board
+/// is its opening.
 pub struct Board<
     X: OneThread,
     B: Tag,
@@ -59,7 +60,8 @@ impl<X: OneThread, B: Tag, T: HoldsPublished<Published<X, B>>> Board<X, B, T> {
 }
 
 impl<X: OneThread, B: Tag> Board<X, B> {
-    // The object. Its tape begins with the opening and all that these seats had seen; if they are all, it has just their calls.
+    // Returns the object. The tape that leads to its state begins with the opening and all that these seats have seen. If they are all
+    // seats of the board, the tape has only their calls.
     pub(crate) fn finish<R: Wait>(self, rt: &R, seats: Vec<Seat<X, B>>) -> X
         ensures { (tape : List (TapeEntry X.State X.Command X.Reply))
             × Leads X.replies tape (X.state result) × IsTapeOf self seats.items B.parts tape }

@@ -1,4 +1,4 @@
-//! The board of the one-thread object: opening, calls and glances.
+//! The board of the one-thread object: its opening, calls and glances.
 ghost use Rattle.std.specs.Prelude.{◌≡◌, ◌⊎◌, ◌+◌, ◌≤◌, length, IfOk, IfErr, OnOk, IfSome, IsSome};
 ghost use Rattle.edn.specs.declared.refusal.Refusal.TheVariants.{NoMemory, NoSeat};
 ghost use Rattle.machine.specs.Machine.{MayStep, opening};
@@ -17,41 +17,41 @@ use linspec::Verdict;
 use std::alloc::Global;
 use std::sync::Wait;
 
-/// The most seats that a board has.
+/// The maximum number of seats of a board.
 const MOST_SEATS: u32 = 64;
 
-/// A board that no tag names yet: open it in a function that is generic over the tag.
+/// A board without a tag. Open it in a function that is generic over the tag.
 pub type Blank = blank::Blank<Core>;
 
-/// One monitor that many threads share. A call takes the lock, and is one entry of one legal tape; a glance takes none.
-/// It is linear: `end` takes it apart. The tag `B` names it.
+/// One monitor that many threads share. A call takes the lock, and is one entry of one legal tape. A glance takes no lock. A board is
+/// linear: only `end` takes it apart. The tag `B` names it.
 pub type Board<B> = board::Board<Core, B>;
 
-/// A thread's handle to a board: its number, the number of its answered calls, and the tape that it has seen. Contracts see these three.
-/// The tag `B` ties it to its board.
+/// A thread's handle to a board: its number, the number of its answered calls, and the tape that it has seen. In contracts, a seat is these
+/// three parts. The tag `B` ties the seat to its board.
 pub type Seat<B> = seat::Seat<Core, B>;
 
-/// The tape that a seat had seen, for another seat of the same board (`learn`). It takes no memory.
+/// The tape that a seat has seen, for another seat of the same board (`learn`). It takes no memory.
 pub type News<B> = seat::News<Core, B>;
 
-/// The answer of a call: the `reply`, which may be a refusal, the number of its entry from 1, and the tape that the seat had then seen, as
-/// news for others.
+/// The answer of a call: the `reply`, which may be a refusal, and the number of its entry, from 1. It also has the tape that the seat has
+/// then seen, as news for other seats.
 pub type Answered<B> = seat::Answered<Core, B>;
 
-/// The result of a glance: the number of published calls, and the verdict after them.
+/// The result of a glance.
 #[derive(Clone, Copy)]
 pub struct Glance {
-    /// How many calls had been made.
+    /// The number of published calls.
     pub call_count: u64,
-    /// The verdict after them.
+    /// The verdict after these calls.
     pub verdict: Verdict,
 }
 
 impl blank::Blank<Core> {
-    /// The parts of a board for `seats` seats, 1 to 64, that opens as configured. It costs what [`Core::new`] costs.
+    /// Returns the parts of a board for `seats` seats, 1 to 64, with this configuration. Costs what [`Core::new`] costs.
     ///
     /// # Errors
-    /// Those of [`Core::new`], else [`Refusal::NoSeat`] if the seats are not 1 to 64.
+    /// Those of [`Core::new`], otherwise [`Refusal::NoSeat`] if `seats` is not 1 to 64.
     #[tactic(auto, using(crate::proofs::Refusing::not_begin))]
     pub fn new(alloc: Global, config: Config, seats: u32) -> Result<Blank, Refusal>
         ensures limits { OnOk result (IsSetup (setup_of config)) }
@@ -66,11 +66,12 @@ impl blank::Blank<Core> {
         Ok(blank::Blank::of(alloc, core, seats))
     }
 
-    /// The board that the tag names, and its seats, numbered from 0, which have seen the tape without calls. Call it in a function generic
-    /// over the tag, and that one with std's `Brand`. Costs O(seats), and memory for the seats and for the published copies.
+    /// Returns the board that the tag names, and its seats, which are numbered from 0 and have seen the tape without calls. Call it in a
+    /// function that is generic over the tag, and call that function with std's `Brand`. Costs O(seats), and memory for the seats and for
+    /// the published copies.
     ///
     /// # Errors
-    /// [`Refusal::NoMemory`] if an allocation fails, [`Refusal::NoSeat`] if the published copy gives a seat no place to read from.
+    /// [`Refusal::NoMemory`] if an allocation fails, [`Refusal::NoSeat`] if a seat gets no place to read the published copy from.
     pub fn open<B: Tag>(self) -> Result<(Board<B>, Vec<Seat<B>>), Refusal>
         requires names { (self.word ≡ B.word) × (self.ledger.name ≡ B.name)
             × (self.ledger.parts ≡ B.parts) }
@@ -86,11 +87,14 @@ impl blank::Blank<Core> {
 
 impl<B: Tag> board::Board<Core, B> {
     /// Carries out a command under the lock, as one entry of the tape, and publishes it. A refused command is an entry too, with the
-    /// refusal as its reply. A verdict is the one from scratch on the history of the tape's commands. It waits for other calls, and for
-    /// glances inside the copy that it writes. It costs what [`Core::step`] costs, and a visit to every seat's place.
+    /// refusal as its reply. A verdict is the one that a computation from scratch gives for the history of the tape's commands. A call
+    /// waits for other calls, and for glances that read the copy that it writes. Costs what [`Core::step`] costs, and a visit to every
+    /// seat's place.
     ///
-    /// # Errors [`Refusal::TapeFull`] if the tape has 2^32 - 1 calls; then the seat has seen all of them. Else [`Refusal::NoMemory`] if an
-    /// allocation fails; the verdict and a refused command never allocate. Then the call adds no entry, and nothing is published.
+    /// # Errors
+    /// [`Refusal::TapeFull`] if the tape has 2^32 - 1 calls; the seat has then seen all of them. Otherwise [`Refusal::NoMemory`] if an
+    /// allocation fails; the verdict and a refused command never allocate. After an error the call has added no entry and published
+    /// nothing.
     pub fn call<R: Wait>(
         &self,
         rt: &R,
@@ -104,17 +108,17 @@ impl<B: Tag> board::Board<Core, B> {
         ensures from_scratch { IfOk result (λ a. IsTrueAfter seat.new.tape a.reply) }
         ensures refused { IfErr result (λ why. (whole : CoreTape)
             × IsRefused MayStep MayWantMemory whole seat.old seat.new command why) }
-        // To ask for the verdict needs no memory.
+        // A request for the verdict does not allocate.
         ensures asked { command ≡ Command.Verdict → IfErr result (λ why. why ≡ Refusal.TapeFull) }
     {
         self.call_with_gate(rt, seat, command, &OpenGate)
     }
 
-    /// A `call` whose gate begins, by the seat's number, under the lock before the entry is published, and ends after it.
-    /// It costs and waits as `call` does, and as the gate does.
+    /// Calls like [`call`](Self::call), with a gate. Under the lock, calls the gate's `begin` with the seat's number before the entry is
+    /// published, and its `end` afterwards. Costs and waits as `call` does, and as the gate does.
     ///
     /// # Errors
-    /// Those of `call`. The gate is then not called.
+    /// Those of `call`. The gate is not called then.
     pub fn call_with_gate<G: Gate, R: Wait>(
         &self,
         rt: &R,
@@ -129,15 +133,15 @@ impl<B: Tag> board::Board<Core, B> {
         ensures from_scratch { IfOk result (λ a. IsTrueAfter seat.new.tape a.reply) }
         ensures refused { IfErr result (λ why. (whole : CoreTape)
             × IsRefused MayStep MayWantMemory whole seat.old seat.new command why) }
-        // To ask for the verdict needs no memory.
+        // A request for the verdict does not allocate.
         ensures asked { command ≡ Command.Verdict → IfErr result (λ why. why ≡ Refusal.TapeFull) }
     {
         self.carry_out(rt, gate, seat, command)
     }
 
-    /// Returns the newest published verdict. The seat has then seen its tape, which begins with all that the seat had seen before. The
-    /// result is never `None`. A glance takes no lock, no memory, and a few atomic steps. Its price: if a thread is stopped during a
-    /// glance, the next call that publishes waits for it, and all other calls wait for that call.
+    /// Returns the newest published verdict. The seat has then seen the tape of this publication, which begins with all that the seat had
+    /// seen before. The result is never `None`. Takes no lock and only a few atomic steps, and does not allocate. If a thread is stopped
+    /// during a glance, the next call that publishes waits for it, and all other calls wait for that call.
     pub fn glance(&self, seat: &mut Seat<B>) -> Option<Glance>
         ensures same { (seat.new.number ≡ seat.old.number) × (seat.new.count ≡ seat.old.count) }
         ensures shows { IsSome result }
@@ -152,8 +156,8 @@ impl<B: Tag> board::Board<Core, B> {
         })
     }
 
-    /// The core, in the state after a legal tape that begins with all that these seats had seen. If they are all seats of the board, the
-    /// tape has just their calls. It waits for glances that are still inside the published copy. Costs O(seats), and no memory.
+    /// Returns the core, in the state after a legal tape that begins with all that these seats have seen. If they are all seats of the
+    /// board, the tape has only their calls. Waits for glances that still read the published copy. Does not allocate. Costs O(seats).
     pub fn end<R: Wait>(self, rt: &R, seats: Vec<Seat<B>>) -> Core
         ensures { (tape : CoreTape) × LeadsTo tape result.machine
             × IsTapeOf self seats.items B.parts tape }

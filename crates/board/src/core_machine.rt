@@ -1,4 +1,4 @@
-//! The one-thread object as an object that a board keeps.
+//! The one-thread object, as an object of a board.
 ghost use Rattle.std.specs.Prelude.{◌≡◌, ◌≢◌, Some, Err, IfOk, OnOk, OnErr};
 ghost use Rattle.edn.specs.declared.refusal.Refusal.TheVariants.{NoMemory};
 ghost use Rattle.machine.specs.Machine.{MayStep};
@@ -12,7 +12,7 @@ use linspec::Verdict;
 use std::alloc::AllocError;
 use std::marker::Model;
 
-/// The state of the core: contracts see the machine. No value of it is made.
+/// The state of the core. In contracts, it is a machine. No value of this type is made.
 pub struct CoreState {
     config: Config,
 }
@@ -20,12 +20,14 @@ pub struct CoreState {
 impl Model for CoreState {
     ghost use Rattle.std.specs.Coded.{codes};
     ghost use Rattle.generators.specs.Codes.{generator_code};
+    ghost use Rattle.kinds.specs.contracts.any_state.AnyState as any_state;
+    ghost use Rattle.kinds.specs.contracts.model_kind.ModelKind as model_kind;
     ghost use Rattle.machine.specs.Machine.{Machine, opening};
     ghost use Rattle.harness.specs.Setups.{setup_of};
 
     ghost Value = { Machine };
 
-    ghost coded = { Prim.hlevel (codes, generator_code) };
+    ghost coded = { Prim.hlevel (codes, generator_code, any_state.the_row.coded, model_kind.the_row.coded) };
 
     ghost view = { λ s. opening (setup_of s.config) };
 }
@@ -69,7 +71,7 @@ impl OneThread for Core {
     }
 }
 
-// A refused command is still an entry, which changes nothing. A command that runs out of memory makes none.
+// Prepares the entry of a refused command, which changes nothing. A command that runs out of memory has no entry.
 fn refuse(core: &mut Core, why: Refusal) -> Result<(Result<Reply, Refusal>, Verdict), AllocError>
     ensures same { core.new.machine ≡ core.old.machine }
     ensures entry { OnOk result (why ≢ NoMemory) }
@@ -86,7 +88,7 @@ fn refuse(core: &mut Core, why: Refusal) -> Result<(Result<Reply, Refusal>, Verd
     }
 }
 
-// Prepares that nothing changes, by the command that only asks, which is never refused.
+// Prepares a command without an effect: the request for the verdict, which is never refused.
 fn stay(core: &mut Core) -> Verdict
     ensures same { core.new.machine ≡ core.old.machine }
     ensures ready { core.new.next ≡ Some core.old.machine }

@@ -1,4 +1,4 @@
-//! A law of the tapes' commands.
+//! A law about the commands on a tape.
 ghost use Rattle.std.specs.Prelude.{◌≡◌};
 ghost use mathlib.Core.List.{IsPrefix};
 ghost use Rattle.events.specs.Events.{marks};
@@ -11,8 +11,9 @@ ghost use Rattle.board.specs.CoreTape.{CoreTape, LeadsTo, opening_tape, calls_on
 
 use machine::no_false_alarm;
 
-/// No false alarm: if a tape opens on a strict store and has calls of trials alone, refused ones among them, its history is linearizable
-/// over all keys together. It holds for the tapes in the clauses of `call`, `glance` and `end` of a board; no call cites it.
+/// No false alarm. Let a tape open on a strict store and have only calls of trials, including refused ones. Then its history is
+/// linearizable over all keys together. The law is about the tapes in the clauses of `call`, `glance` and `end` of a board. No call cites
+/// it.
 pub fn no_false_alarm_on_a_tape()
     ensures { (setup : Setup) (tape : CoreTape) (m : Machine) → setup.mode ≡ Strict
         → IsCount setup.replicas → IsPrefix (opening_tape (opening setup)) tape

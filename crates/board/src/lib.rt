@@ -1,8 +1,8 @@
-//! One monitor that many threads share: a lock round the one-thread object, one tape of its calls, glances that take no lock.
+//! One monitor that many threads share: a lock around the one-thread object, one tape of its calls, and glances that take no lock.
 //!
-//! Under the lock a call takes four steps: it is prepared, which alone may allocate; entered on the tape; carried out; and published. There
-//! are two copies of a publication: readers have one while the writer fills the other, so a glance does not block. A seat keeps the newest
-//! publication that it has seen, and with it knows how the tape begins.
+//! Under the lock a call takes four steps: it is prepared, entered on the tape, carried out, and published. Only the preparation may
+//! allocate. There are two copies of a publication. Readers use one while the writer fills the other, so a glance does not block. A seat
+//! keeps the newest publication that it has seen, and so knows a prefix of the tape.
 //!
 //! A call allocates only if its result can be `AllocError`, or a refusal because memory ran out.
 #![tactic(auto)]

@@ -21,15 +21,15 @@ use std::sync::ledger::{Book, Share};
 
 const MOST_ENTRIES: u64 = (1 << 32) - 1;
 
-/// The object, the tape that led to it, and the published copy, which shows that tape. Contracts see the tape's entries.
+/// The object, the tape that led to it, and the published copy, which shows this tape. In contracts, it is the list of the tape's entries.
 pub struct Locked<X: OneThread, B: Tag, T: HoldsPublished<Published<X, B>>> {
     pub(crate) object: X,
     pub(crate) tape: WholeTape<X, B>,
-    // The two copies of the publication. None while a call publishes.
+    // The two copies of the publication. It is `None` while a call publishes.
     pub(crate) writer: Option<Writer<T, (), (), Unruled>>,
-    // The number of calls: a ledger in which each seat has the share that it made. For proofs alone.
+    // The number of calls: a ledger in which each seat has the share of its own calls. It exists only in proofs.
     pub(crate) calls: Book<B>,
-    // The rest of that ledger, which no seat has: nothing. Seats' shares are added to it as the board ends.
+    // The share of this ledger that no seat has, which is zero. At the end of the board the shares of the seats are added to it.
     pub(crate) rest: Share<B>,
 }
 
@@ -47,7 +47,7 @@ impl<X: OneThread, B: Tag, T: HoldsPublished<Published<X, B>>> Model for Locked<
         × MatchOption d.writer ⊥ (λ w. T.holds w.desk.shown.value ≡ d.tape) };
 }
 
-// Puts a new value in the place of none. Its type has no `Drop`, so an assignment can't be written.
+// Replaces `None` by a value. The type of the value has no `Drop`, so an assignment cannot be written.
 fn put<D>(place: &mut Option<D>, new: D)
     requires { place.old ≡ None }
     ensures { place.new ≡ Some new }
@@ -58,7 +58,7 @@ fn put<D>(place: &mut Option<D>, new: D)
     }
 }
 
-// Shows this to readers from now on. It waits for readers of the copy before the last, takes no memory and cannot fail.
+// Publishes the value: readers see it from now on. Waits for readers of the copy before the last one. Does not allocate and cannot fail.
 fn publish<P: Drop, T: HoldsPublished<P>, R: Wait>(
     rt: &R,
     writer: &mut Option<Writer<T, (), (), Unruled>>,
@@ -74,7 +74,7 @@ fn publish<P: Drop, T: HoldsPublished<P>, R: Wait>(
     put(writer, whole);
 }
 
-// What readers see.
+// Returns the publication that readers see.
 fn published_by<P: Drop, T: HoldsPublished<P>>(writer: &Option<Writer<T, (), (), Unruled>>) -> &P
     requires { IsSome writer.now }
     ensures { MatchOption writer.now ⊥ (λ w. result.now ≡ T.holds w.desk.shown.value) }
@@ -86,7 +86,7 @@ fn published_by<P: Drop, T: HoldsPublished<P>>(writer: &Option<Writer<T, (), (),
 }
 
 impl<X: OneThread, B: Tag, T: HoldsPublished<Published<X, B>>> Locked<X, B, T> {
-    /// Carries out a command of the seat, in four steps: it is prepared, entered on the tape, carried out and published. The board's count
+    /// Carries out a command of the seat in four steps: it is prepared, entered on the tape, carried out and published. The board's count
     /// of calls (`tape_length`) grows with the tape. The seat has then seen what readers see. If the command is refused because memory ran
     /// out, the seat has seen the same as before.
     pub(crate) fn call<G: Gate, R: Wait>(
@@ -141,7 +141,7 @@ impl<X: OneThread, B: Tag, T: HoldsPublished<Published<X, B>>> Locked<X, B, T> {
     }
 }
 
-// Takes the seats back, as the board ends: the tape begins with everything that they have seen, and has just their calls.
+// Takes the seats back at the end of the board: the tape begins with everything that they have seen, and has only their calls.
 pub(crate) fn gather<X: OneThread, B: Tag, T: HoldsPublished<Published<X, B>>>(
     tape_length: &TapeLength<X, B>,
     object: &X,

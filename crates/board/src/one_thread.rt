@@ -3,15 +3,15 @@ ghost use Rattle.std.specs.Prelude.{◌≡◌, Option, Some, IfOk, OnErr, IsSome
 
 use std::alloc::AllocError;
 
-/// An object of one thread, whose commands come in two halves.
+/// An object for one thread. Each of its commands is first prepared and then committed.
 pub trait OneThread: Drop {
-    /// The state of the machine. No value of it is made.
+    /// The state of the object. No value of this type is made.
     type State;
 
-    /// Its commands.
+    /// The commands of the object.
     type Command: Drop;
 
-    /// Its replies. A refusal may be a reply.
+    /// The replies of the object. A refusal may be a reply.
     type Reply: Drop;
 
     /// The summary of a state that readers see.
@@ -19,23 +19,23 @@ pub trait OneThread: Drop {
 
     ghost state: { Self → Self.State };
 
-    // In the state before, the command is given the reply and leads to the state after.
+    // In the first state the command has the reply, and leads to the second state.
     ghost replies: { Self.State → Self.Command → Self.Reply → Self.State → Type 0 };
 
-    // Readers may be shown this in that state.
+    // In this state readers may see this summary.
     ghost summarizes: { Self.State → Self.Summary → Type 0 };
 
-    // In that state the command may run out of memory.
+    // In this state the command may run out of memory.
     ghost may_want: { Self.State → Self.Command → Type 0 };
 
-    // The state that `commit` will bring, if a command is prepared.
+    // The state after `commit`, if a command is prepared.
     ghost promised: { Self → Option Self.State };
 
-    /// The present summary for readers.
+    /// Returns the present summary.
     fn summary(&self) -> Self::Summary
         ensures { summarizes (state self.now) result };
 
-    /// Prepares a command, and gives its reply and the summary of the state that `commit` will bring.
+    /// Prepares a command, and returns its reply and the summary of the state after `commit`.
     fn prepare(
         &mut self,
         command: Self::Command,
@@ -46,7 +46,7 @@ pub trait OneThread: Drop {
             × summarizes next r.1) }
         ensures memory { OnErr result (may_want (state self.old) command) };
 
-    /// Carries out what is prepared. It takes no memory and cannot fail.
+    /// Carries out the prepared command. Does not allocate and cannot fail.
     fn commit(&mut self)
         requires { IsSome (promised self.old) }
         ensures { promised self.old ≡ Some (state self.new) };

@@ -1,4 +1,4 @@
-//! The publication, and the copy of it that readers take.
+//! The publication, and the copy of it that readers see.
 ghost use Rattle.std.specs.Prelude.{◌≡◌, ◌+◌, length};
 ghost use mathlib.Core.List.{IsPrefix};
 ghost use Rattle.board.specs.Tape.{IsSummaryAfter};
@@ -10,7 +10,7 @@ use left_right::Absorb;
 use std::alloc::AllocError;
 use std::marker::Model;
 
-/// A publication: a tape, and the summary of the state that it leads to. Contracts see it as its entries.
+/// A publication: a tape, and the summary of the state to which it leads. In contracts, it is the list of the tape's entries.
 #[derive(Drop)]
 pub struct Published<X: OneThread, B: Tag> {
     summary: X::Summary,
@@ -37,7 +37,7 @@ pub struct Shown<S> {
 }
 
 impl<X: OneThread, B: Tag> Published<X, B> {
-    /// A publication of the tape, with this summary of the state that it leads to.
+    /// Returns a publication of the tape, with this summary of the state to which it leads.
     pub fn new(summary: X::Summary, tape: SeenTape<X, B>) -> Published<X, B>
         requires { IsSummaryAfter X.replies X.summarizes tape summary }
         ensures { result ≡ tape }
@@ -45,7 +45,7 @@ impl<X: OneThread, B: Tag> Published<X, B> {
         Published { summary, tape }
     }
 
-    /// A copy. Takes no memory.
+    /// Returns a copy of the publication. Does not allocate.
     pub fn again(&self) -> Published<X, B>
         ensures { result ≡ self.now }
     {
@@ -55,7 +55,7 @@ impl<X: OneThread, B: Tag> Published<X, B> {
         }
     }
 
-    /// Its visible part.
+    /// Returns the visible part of the publication.
     pub fn show(&self) -> Shown<X::Summary>
         ensures call_count { length self.now ≡ result.call_count + 1 }
         ensures shown { IsSummaryAfter X.replies X.summarizes self.now result.summary }
@@ -66,7 +66,7 @@ impl<X: OneThread, B: Tag> Published<X, B> {
         }
     }
 
-    /// The tape, as far as it was published.
+    /// Returns the published part of the tape.
     pub fn tape(&self) -> &SeenTape<X, B>
         ensures { result.now ≡ self.now }
     {
@@ -84,27 +84,28 @@ impl<X: OneThread, B: Tag> Published<X, B> {
     }
 }
 
-/// The copy that readers take: one publication, which a newer one replaces. It has no list of operations, which would take memory.
+/// The copy that readers see. It has one publication, which a newer one replaces. It has no list of operations, which would take memory.
 ///
-/// It is a bound with one type, [`PublishedCopy`]. A generic struct may not hold a type with ghost fields of a trait that a generic `impl`
-/// alone gives it. The `Writer` and `Reader` of a `PublishedCopy` have such fields of `Absorb`.
+/// Only [`PublishedCopy`] implements this trait. The trait exists because of its ghost fields. A generic struct may not hold a type if only
+/// a generic `impl` gives ghost fields of a trait to this type. The `Writer` and `Reader` of a `PublishedCopy` have such fields of
+/// `Absorb`.
 pub trait HoldsPublished<P: Drop>: Absorb<(), State = ()> + Drop {
     ghost holds: { Self → P };
 
-    /// A copy with this publication.
+    /// Returns a copy with this publication.
     fn of(published: P) -> Self
         ensures of { holds result ≡ published };
 
-    /// The publication.
+    /// Returns the publication.
     fn published(&self) -> &P
         ensures shows { result.now ≡ holds self.now };
 
-    /// Puts this publication in the place of the one before. It takes no memory and cannot fail.
+    /// Replaces the publication. Does not allocate and cannot fail.
     fn put(&mut self, published: P)
         ensures puts { holds self.new ≡ published };
 }
 
-/// One copy of the publication. No operation is absorbed.
+/// One copy of the publication. It absorbs no operations.
 #[derive(Drop)]
 pub struct PublishedCopy<P: Drop> {
     published: P,

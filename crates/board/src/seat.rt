@@ -1,4 +1,4 @@
-//! A seat of any object's board, its news for others, and its answers.
+//! A seat of a board of any object, its news for other seats, and its answers.
 ghost use Rattle.std.specs.Prelude.{◌≡◌, ◌+◌, length};
 ghost use mathlib.Core.List.{IsPrefix};
 ghost use Rattle.board.specs.Tape.{HasSeen, IsSummaryAfter};
@@ -13,16 +13,17 @@ use std::collections::LinkedList;
 use std::marker::Model;
 use std::sync::ledger::Share;
 
-/// The view of a seat in contracts. No value of it is made.
+/// A seat as contracts see it. No value of this type is made.
 pub struct SeatView<S, C, R> {
     pub number: u32,
-    /// The calls that were answered.
+    /// The number of answered calls.
     pub count: u64,
-    /// The longest tape that the seat has seen. It begins with each that it has seen.
+    /// The longest tape that the seat has seen. It begins with each tape that the seat has seen.
     pub tape: LinkedList<TapeEntry<S, C, R>>,
 }
 
-/// A seat of any object's board: its number, the number of its answered calls, and the tape that it has seen. Contracts see these three.
+/// A seat of a board of any object: its number, the number of its answered calls, and the tape that it has seen. In contracts, a seat is
+/// these three parts.
 #[derive(Drop)]
 pub struct Seat<
     X: OneThread,
@@ -30,9 +31,9 @@ pub struct Seat<
     T: HoldsPublished<Published<X, B>> = PublishedCopy<Published<X, B>>,
 > {
     pub(crate) number: u32,
-    // A glance has it while it looks.
+    // The reader of the published copy. A glance takes it out while it reads.
     pub(crate) reader: Option<Reader<T, (), Unruled>>,
-    // The newest publication that it has seen.
+    // The newest publication that the seat has seen.
     pub(crate) newest: Published<X, B>,
     pub(crate) share: Share<B>,
 }
@@ -48,7 +49,7 @@ impl<X: OneThread, B: Tag, T: HoldsPublished<Published<X, B>>> Model for Seat<X,
     ghost invariant = { λ s. (s.share.parts ≡ 1) × IsSome s.reader };
 }
 
-/// The tape that a seat had seen, for other seats of the same board. Contracts see it as the tape.
+/// The tape that a seat has seen, for other seats of the same board. In contracts, it is this tape.
 #[derive(Drop)]
 pub struct News<X: OneThread, B: Tag> {
     newest: Published<X, B>,
@@ -63,7 +64,8 @@ impl<X: OneThread, B: Tag> Model for News<X, B> {
     ghost view = { λ n. n.newest };
 }
 
-/// The answer of a call that is an entry: the reply, the number of the entry, and the tape that its seat had then seen, as news.
+/// The answer of a call that is an entry: the reply, and the number of the entry. It also has the tape that the seat has seen then, as
+/// news.
 #[derive(Drop)]
 pub struct Answered<X: OneThread, B: Tag> {
     pub reply: X::Reply,
@@ -72,7 +74,16 @@ pub struct Answered<X: OneThread, B: Tag> {
     pub news: News<X, B>,
 }
 
-// Enters the published copy, and takes its tape if that continues the tape at hand.
+impl<X: OneThread, B: Tag> Answered<X, B> {
+    /// Returns the reply. Takes constant time.
+    pub fn into_reply(self) -> X::Reply
+        ensures { result ≡ self.reply }
+    {
+        self.reply
+    }
+}
+
+// Reads the published copy, and replaces `newest` by it if its tape begins with that of `newest`.
 fn enter<X: OneThread, B: Tag, T: HoldsPublished<Published<X, B>>>(
     reader: Reader<T, (), Unruled>,
     newest: &mut Published<X, B>,
@@ -89,7 +100,8 @@ fn enter<X: OneThread, B: Tag, T: HoldsPublished<Published<X, B>>>(
 }
 
 impl<X: OneThread, B: Tag, T: HoldsPublished<Published<X, B>>> Seat<X, B, T> {
-    // Looks at the published copy, and shows the newest publication that it has then seen. It does not block and takes no memory.
+    // Reads the published copy, and returns the visible part of the newest publication that the seat has then seen. Does not block and does
+    // not allocate.
     pub(crate) fn look(&mut self) -> Shown<X::Summary>
         ensures same { (self.new.number ≡ self.old.number) × (self.new.count ≡ self.old.count) }
         ensures seen { HasSeen self.new self.old.tape }
@@ -101,7 +113,7 @@ impl<X: OneThread, B: Tag, T: HoldsPublished<Published<X, B>>> Seat<X, B, T> {
         self.newest.show()
     }
 
-    /// From now on the seat has seen what the sender of the news had. It takes no memory and cannot fail.
+    /// Learns the news: the seat has then seen what the sender of the news had seen. Does not allocate and cannot fail.
     pub fn learn(&mut self, news: News<X, B>)
         ensures same { (self.new.number ≡ self.old.number) × (self.new.count ≡ self.old.count) }
         ensures mine { HasSeen self.new self.old.tape }
@@ -110,7 +122,7 @@ impl<X: OneThread, B: Tag, T: HoldsPublished<Published<X, B>>> Seat<X, B, T> {
         self.newest.follow(&news.newest);
     }
 
-    // The tape that the seat has seen, for others. It takes no memory and cannot fail.
+    // Returns the tape that the seat has seen, for other seats. Does not allocate and cannot fail.
     pub(crate) fn news(&self) -> News<X, B>
         ensures { result ≡ self.now.tape }
     {

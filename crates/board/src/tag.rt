@@ -2,7 +2,7 @@
 use std::marker::Brand;
 use std::sync::ledger::Ledger;
 
-/// Names one board: the word of its tape, and its ledger. If seats go to other threads, ask for `B: Tag + Send + Sync`.
+/// The name of one board: the word of its tape, and its ledger. If seats are sent to other threads, require `B: Tag + Send + Sync`.
 pub trait Tag: Ledger {
     ghost use Rattle.logbook.specs.Pages.{Named};
 

@@ -1,5 +1,5 @@
-//! One tape: its entries, the part that a thread has seen, and the whole tape with the right to append to it. Only the number of its calls
-//! exists when the program runs; all else exists in the proofs alone.
+//! One tape: its entries, the part that a thread has seen, and the whole tape with the right to append to it. Only the number of calls
+//! exists at run time; the rest exists only in proofs.
 ghost use Rattle.std.specs.Prelude.{◌≡◌, ◌+◌, ◌<◌, ◌^◌, ◌++◌, ◌∷◌, [], Some, length, true, MatchBool};
 ghost use mathlib.Core.List.{IsPrefix};
 ghost use Rattle.logbook.specs.Pages.{may_write};
@@ -16,15 +16,15 @@ use logbook::Pen;
 use std::marker::{Model, PhantomData};
 use std::snapshot::Snapshot;
 
-/// An entry of a tape. No value of it is made.
+/// An entry of a tape. No value of this type is made.
 pub enum TapeEntry<S, C, R> {
-    /// The state at the opening. It is the first entry, and no other entry is one.
+    /// The state at the opening. It is the first entry, and the only one of this kind.
     Opening(S),
     /// A seat's command, with its reply.
     Call(u32, C, R),
 }
 
-/// The entry that a call adds to the tape. Its command and its reply are snapshots, which exist in the proofs alone.
+/// The entry that a call adds to the tape. Its command and its reply are snapshots, which exist only in proofs.
 #[derive(Drop)]
 pub struct NewEntry<C, R> {
     pub seat: u32,
@@ -40,7 +40,7 @@ pub struct TapeLength<X: OneThread, B: Tag> {
     ghost word_is: { (word ≡ B.word) × (word.tracked ≡ true) },
 }
 
-/// A prefix of the tape that a thread has seen. Contracts see it as its entries.
+/// A prefix of the tape, which a thread has seen. In contracts, it is the list of its entries.
 #[derive(Drop)]
 pub struct SeenTape<X: OneThread, B: Tag> {
     count: u64,
@@ -63,7 +63,7 @@ impl<X: OneThread, B: Tag> Model for SeenTape<X, B> {
         × IsLegalTape X.replies (tape_of B.word.key t.seen.log) };
 }
 
-/// The tape, to which nobody else can add. Contracts see it as its entries.
+/// The whole tape, to which nobody else can append. In contracts, it is the list of its entries.
 #[derive(Drop)]
 pub struct WholeTape<X: OneThread, B: Tag> {
     count: u64,
@@ -115,7 +115,7 @@ impl<X: OneThread, B: Tag> SeenTape<X, B> {
         }
     }
 
-    /// How many calls it has.
+    /// Returns the number of calls.
     pub fn count(&self) -> u64
         ensures length { length self.now ≡ result + 1 }
         ensures most { result < 2 ^ 32 }
@@ -124,7 +124,7 @@ impl<X: OneThread, B: Tag> SeenTape<X, B> {
         self.count
     }
 
-    /// A copy: two places may know the same part of the tape. Takes no memory.
+    /// Returns a copy, since two places may know the same part of the tape. Does not allocate.
     pub fn again(&self) -> SeenTape<X, B>
         ensures { result ≡ self.now }
     {
@@ -135,11 +135,11 @@ impl<X: OneThread, B: Tag> SeenTape<X, B> {
         }
     }
 
-    /// Whether this tape is at least as long as `other`, and so begins with it. Else `other` begins with this tape.
+    /// Returns whether this tape is at least as long as `other`, and so begins with it. Otherwise `other` begins with this tape.
     pub fn covers(&self, other: &SeenTape<X, B>) -> bool
         ensures { MatchBool result (IsPrefix other.now self.now) (IsPrefix self.now other.now) }
     {
-        // A thread that has seen both knows that one of them begins with the other.
+        // A thread that has seen both tapes knows that one of them begins with the other.
         let mut both = self.seen.again();
         both.learn(&other.seen);
         if other.count > self.count {
@@ -166,7 +166,7 @@ impl<X: OneThread, B: Tag> WholeTape<X, B> {
         }
     }
 
-    /// How many calls it has.
+    /// Returns the number of calls.
     pub fn count(&self) -> u64
         ensures length { length self.now ≡ result + 1 }
         ensures most { result < 2 ^ 32 }
@@ -175,14 +175,14 @@ impl<X: OneThread, B: Tag> WholeTape<X, B> {
         self.count
     }
 
-    /// The part of the tape that is seen.
+    /// Returns the tape as a seen part.
     pub fn seen(&self) -> SeenTape<X, B>
         ensures { result ≡ self.now }
     {
         SeenTape::of(self.count, self.seen.again())
     }
 
-    /// Proves that the tape begins with `seen`. The object lends its state, since each step names one.
+    /// Proves that the tape begins with `seen`. The object is borrowed, since each step names a state.
     pub fn confirm(&mut self, tape_length: &TapeLength<X, B>, object: &X, seen: &SeenTape<X, B>)
         ensures same { self.new ≡ self.old }
         ensures begins { IsPrefix seen.now self.old }
@@ -202,7 +202,7 @@ impl<X: OneThread, B: Tag> WholeTape<X, B> {
             );
     }
 
-    /// Adds a call, and proves that the tape began with `seen`. It cannot fail.
+    /// Appends a call, and proves that the tape before it begins with `seen`. Cannot fail.
     pub fn add(
         &mut self,
         tape_length: &TapeLength<X, B>,

@@ -1,5 +1,5 @@
-//! The lines of the book, and the rule by which a tape grows. Each line names a cell that the next line of the tape takes back. So the
-//! thread with the right to that cell knows the whole tape, and no other thread can append to it.
+//! The lines of the book, and the rule by which a tape grows. Each line names a cell, which the next line of the tape takes back. So the
+//! thread with the right to this cell knows the whole tape, and no other thread can append to it.
 ghost use Rattle.std.specs.Prelude.{◌≡◌, true, None};
 ghost use Rattle.logbook.specs.Pages.{may_write};
 ghost use Rattle.board.specs.TapeRule.{StaysHome};
@@ -10,7 +10,7 @@ use crate::tape::{NewEntry, TapeEntry};
 use logbook::{Gain, Offer, Pen, Plain, Play, Rule, Seen, Word};
 use std::marker::PhantomData;
 
-/// A line of the book. No value of it is made.
+/// A line of the book. No value of this type is made.
 pub struct BookLine<E> {
     /// The number of its tape.
     pub tape: u64,
@@ -19,7 +19,7 @@ pub struct BookLine<E> {
     pub entry: E,
 }
 
-/// The rule of the book. No value of it is made.
+/// The rule of the book. No value of this type is made.
 pub struct TapeRule;
 
 impl<E> Rule<BookLine<E>, u64> for TapeRule {
@@ -40,7 +40,7 @@ impl<E> Rule<BookLine<E>, u64> for TapeRule {
     ghost moves = { λ ask before after answer. Unit {0} };
 }
 
-/// Callers trade nothing.
+/// The trade of callers, which is empty.
 pub struct NoTrade;
 
 impl<E> Gain<E, u64> for NoTrade {
@@ -62,13 +62,13 @@ pub type NewEntryOf<X> = NewEntry<<X as OneThread>::Command, <X as OneThread>::R
 /// A line of the book of a tape of `X`.
 pub type LineOf<X> = BookLine<EntryOf<X>>;
 
-/// A word of that book.
+/// A word of the book of a tape of `X`.
 pub type WordOf<X> = Word<LineOf<X>, u64, TapeRule>;
 
-/// The seen part of that book.
+/// The seen part of the book of a tape of `X`.
 pub type SeenOf<X> = Seen<LineOf<X>, u64, TapeRule>;
 
-/// The request of a step on that book.
+/// The request of a step on the book of a tape of `X`.
 pub type OfferOf<X> = Offer<LineOf<X>, u64, TapeRule, NoTrade>;
 
 /// A step that makes a cell.
@@ -90,7 +90,7 @@ impl<X: OneThread> Plain<X, BookLine<TapeEntry<X::State, X::Command, X::Reply>>,
     ghost state = { λ x. None };
 }
 
-/// A new tape on the state of the object.
+/// A new tape, which opens on the state of the object.
 pub struct NewTape<X> {
     pub object: X,
     /// The right to bring the word of the tape home.
@@ -145,7 +145,7 @@ impl<B: Tag, S, C, R> Plain<NewLine<C, R>, BookLine<TapeEntry<S, C, R>>, u64> fo
     ghost state = { λ w. None };
 }
 
-/// A step that proves that the tape of `B` has nothing more.
+/// A step that proves that the tape of `B` has no further entries.
 pub struct ConfirmTape<B> {
     of: PhantomData<B>,
 }
@@ -167,7 +167,7 @@ impl<B: Tag, X: OneThread> Plain<X, BookLine<TapeEntry<X::State, X::Command, X::
     ghost state = { λ x. None };
 }
 
-// A new cell: its word, and the right to bring that home.
+// Returns a new cell: its word, and the right to bring the cell home.
 pub(crate) fn new_cell<E>(
     word: &Word<BookLine<E>, u64, TapeRule>,
     seen: &Seen<BookLine<E>, u64, TapeRule>,

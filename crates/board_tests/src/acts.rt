@@ -1,4 +1,4 @@
-//! The actions of the seats of a board in turn, and their answers.
+//! The actions of the seats of a board one after another, and their answers.
 ghost use Rattle.std.specs.Prelude.{◌≡◌};
 
 use crate::answers::{Answer, answer_of, plain_of, seen_of};
@@ -10,7 +10,7 @@ use std::marker::Brand;
 use std::process::Abort;
 use std::sync::Wait;
 
-/// What a seat calls. Process 0 writes 3 to key 7, and reads it.
+/// The call of a seat. Process 0 writes 3 to key 7, and reads it.
 #[derive(Clone, Copy)]
 pub enum Line {
     WriteBegins,
@@ -25,18 +25,18 @@ pub enum Line {
     Nemesis,
 }
 
-/// What a seat does.
+/// The action of a seat.
 #[derive(Clone, Copy)]
 pub enum Act {
     Call(Line),
-    /// It calls, and once more if the call ran out of memory and a glance then shows the last answer.
+    /// A call, and the same call again if it ran out of memory and a glance then shows the last answer.
     CallTwice(Line),
     Glance,
-    /// It learns the news of the last call, and glances.
+    /// The seat learns the news of the last call, and glances.
     Learn,
 }
 
-/// The number of a seat, its action, and then the number of the entry and the answer.
+/// The number of a seat, its action, the number of the entry, and the answer.
 pub type Row = (u32, Act, u64, Answer);
 
 fn append(kind: EventKind, name: Name, part: Part) -> Command {
@@ -63,7 +63,7 @@ fn command_of(line: Line) -> Command {
     }
 }
 
-// The answer of the call. Its news is kept.
+// Returns the answer of the call, and keeps its news.
 fn call<B: Tag, R: Wait>(
     rt: &R,
     board: &Board<B>,
@@ -84,7 +84,7 @@ fn glance<B: Tag>(board: &Board<B>, seat: &mut Seat<B>) -> Option<(u64, Answer)>
     seen_of(board.glance(seat))
 }
 
-// The answer of a seat, after this last answer.
+// Returns the answer of a seat's action. `last` is the answer before it.
 fn act_once<B: Tag, R: Wait>(
     rt: &R,
     board: &Board<B>,
@@ -112,8 +112,8 @@ fn act_once<B: Tag, R: Wait>(
     }
 }
 
-/// Opens the board, lets its seats act as the rows say, in turn, and ends it. It stops at the first row with another answer, and returns
-/// its place, if there is one, and the verdict of the end.
+/// Opens the board, lets its seats act as the rows say, one after another, and ends the board. Stops at the first row with another answer.
+/// Returns the index of this row, if there is one, and the verdict at the end.
 pub fn act_in_turn<R: Wait + Abort>(rt: &R, blank: Blank, rows: &[Row]) -> (Option<usize>, Answer) {
     act_by::<Brand, _>(rt, blank, rows)
 }
@@ -134,7 +134,7 @@ fn act_by<B: Tag, R: Wait + Abort>(rt: &R, blank: Blank, rows: &[Row]) -> (Optio
     (other, plain_of(board.end(rt, seats).verdict()))
 }
 
-// The place of the first row that has another answer, or no seat.
+// Returns the index of the first row that has another answer, or whose seat does not exist.
 fn first_other<B: Tag, R: Wait>(
     rt: &R,
     board: &Board<B>,

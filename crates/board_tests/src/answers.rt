@@ -6,7 +6,7 @@ use linspec::Verdict;
 use models::Found;
 use test_store::Outcome;
 
-/// A verdict, a refusal, a ticket and the index of its invocation, or what a serve found.
+/// The answer of a board: a verdict, a refusal, a ticket and the index of its invocation, or the found value of a serve.
 #[derive(Clone, Copy, PartialEq, Eq)]
 pub enum Answer {
     Legal,
@@ -14,10 +14,10 @@ pub enum Answer {
     Unknown(u16, u32),
     Refused(u8),
     Drawn(u32, u32),
-    /// The operation took place, without an answer.
+    /// The operation took place, and found nothing.
     Served,
     Found(Option<i64>),
-    /// Whatever else a board says.
+    /// Any other answer.
     Other,
 }
 
@@ -44,7 +44,7 @@ fn plain_reply(reply: &Reply) -> Answer {
     }
 }
 
-/// The number of the entry and the answer. The number is 0 if the call added no entry.
+/// Returns the number of the entry and the answer. The number is 0 if the call added no entry.
 pub fn answer_of<B: Tag>(answer: &Result<Answered<B>, Refusal>) -> (u64, Answer) {
     match answer {
         Ok(answered) => match &answered.reply {

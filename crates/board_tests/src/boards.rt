@@ -7,7 +7,7 @@ use kinds::ModelKind;
 use std::alloc::Global;
 use std::process::Abort;
 
-/// How a board of two threads is opened.
+/// Returns the configuration of a board of two threads.
 pub fn two(alloc: Global) -> Config {
     Config::judging_only(alloc, 2, ModelKind::Register, 4096)
 }

@@ -17,14 +17,14 @@ fn operation(name: Name, part: Part) -> Item {
     Item::Op(Op { name, key: 7, part })
 }
 
-// A write of 1 and a read, on key 7, in turn.
+// Returns a generator of a write of 1 and a read, on key 7, in alternation.
 fn write_and_read(alloc: Global) -> Result<Gen, AllocError> {
     let write = operation(Name::Write, Part::Int(1));
     let read = operation(Name::Read, Part::Nil);
     Ok(Gen::Ops(Cycle::new(vec![in alloc; write, read]?)))
 }
 
-// A store of one replica, and clients that write and read.
+// Returns a configuration with a store of one replica, and clients that write and read.
 fn clients(alloc: Global) -> Result<Config, Refusal> {
     let generator = write_and_read(alloc)?;
     Ok(Config {
@@ -49,8 +49,8 @@ fn blank<R: Abort>(rt: &R, alloc: Global) -> Blank {
     }
 }
 
-/// Two seats carry out a trial: the second one finishes the operation that the first one draws. Thread 0 writes, and meanwhile thread 1
-/// reads: it finds the write that is still open, which is not an alarm. There is no fault to come.
+/// Tests a trial of two seats: the second seat finishes the operation that the first one draws. Thread 0 writes, and thread 1 reads
+/// meanwhile. The read finds the value of the open write, which is not an alarm. There are no faults.
 #[test]
 fn trial_of_two_seats(rt: HostRuntime) {
     let rows = &[

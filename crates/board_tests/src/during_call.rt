@@ -1,4 +1,4 @@
-//! The action of one seat during a call of another that a gate holds.
+//! The actions of one seat during a call of another seat, which a gate holds.
 ghost use Rattle.std.specs.Prelude.{◌≡◌, length};
 
 use crate::answers::Answer;
@@ -10,10 +10,10 @@ use std::process::Abort;
 use std::sync::Wait;
 use std::thread::{Threads, join};
 
-/// The answer or the glance of a seat, if it came to that.
+/// The answer of a seat's call or glance, if there was one.
 pub type SeatAnswer = Option<(u64, Answer)>;
 
-/// A gate that holds a call, and what another seat does meanwhile, twice at most.
+/// A gate that holds a call, and the actions of another seat meanwhile, at most two.
 pub trait DuringCall: Gate {
     fn act<M: SharedBoard, R: Wait>(
         &self,
@@ -23,7 +23,7 @@ pub trait DuringCall: Gate {
     ) -> (SeatAnswer, SeatAnswer);
 }
 
-// The call of the second seat, and the action of the first during it.
+// Lets the second seat call through the gate, and the first seat act during this call. Returns their answers.
 fn call_during<M: SharedBoard + Sync, G: DuringCall + Sync, R: Threads + Wait + Sync>(
     rt: &R,
     board: &M,
@@ -44,7 +44,8 @@ where
     )
 }
 
-/// Opens the board, and ends it after the second seat called through the gate: its answer, and the answer of the first meanwhile.
+/// Opens the board, lets the second seat call through the gate, and ends the board. Returns the answer of the second seat, and those of the
+/// first seat during the call.
 pub fn hold_call<G: DuringCall + Sync, R: Threads + Wait + Abort + Sync>(
     rt: &R,
     blank: Blank,

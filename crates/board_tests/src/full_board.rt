@@ -1,4 +1,4 @@
-//! A board with all its seats.
+//! A board with the maximum number of seats.
 ghost use Rattle.std.specs.Prelude.{◌≡◌, length};
 
 use crate::acts::{Act, Line, Row, act_in_turn};
@@ -15,7 +15,7 @@ use std::thread::{Threads, join};
 
 const SEATS: u32 = 64;
 
-// Each seat calls once.
+// Returns rows in which each seat calls once.
 fn one_call_each(alloc: Global) -> Result<Vec<Row>, AllocError> {
     let mut rows = Vec::new(alloc);
     for number in 0..SEATS {
@@ -31,7 +31,7 @@ fn one_call_each(alloc: Global) -> Result<Vec<Row>, AllocError> {
     Ok(rows)
 }
 
-/// Each of 64 seats calls in turn, and the object that the end gives stands after all calls.
+/// Tests 64 seats that call one after another. The object at the end has the state after all calls.
 #[test]
 fn seats_in_turn(rt: HostRuntime) {
     let rows = one_call_each(rt.alloc()).expect(&rt, "rows");
@@ -39,7 +39,7 @@ fn seats_in_turn(rt: HostRuntime) {
     assert!(rt; last == (None, Answer::Illegal(7, 3)));
 }
 
-/// The numbers of the entries of some calls, as bits, and how many glances showed less than their seat's call, or nothing.
+/// The numbers of the entries of some calls, as bits. Also the number of glances that showed nothing, or less than the call of their seat.
 #[derive(Clone, Copy)]
 struct Tally {
     entries: u64,
@@ -55,7 +55,7 @@ impl Tally {
     }
 }
 
-// One call of a seat, and a glance after it.
+// Lets a seat call once and then glance.
 fn call_once<M: SharedBoard, R: Wait>(rt: &R, board: &M, seat: &mut M::Seat) -> Tally {
     let (entry_number, _) = board.call(rt, seat);
     let seen = match board.glance(seat) {
@@ -86,7 +86,7 @@ fn call_each<M: SharedBoard, R: Wait>(rt: &R, board: &M, seats: &mut [M::Seat]) 
     tally
 }
 
-// The calls of 64 seats, in four threads.
+// Lets 64 seats call, in four threads.
 fn call_in_threads<M: SharedBoard + Sync, R: Threads + Wait + Sync>(
     rt: &R,
     board: &M,
@@ -119,8 +119,8 @@ where
     a.with(b).with(c.with(d))
 }
 
-/// Calls of 64 seats in four threads are the entries 1 to 64, each once. Each call has an entry, and a glance during them shows at least
-/// the tape that its seat had seen.
+/// Tests calls of 64 seats in four threads. They are the entries 1 to 64, each once. A glance during the calls shows at least the tape that
+/// its seat has seen.
 #[test]
 fn calls_from_four_threads(rt: HostRuntime) {
     let (all, verdict) = call_at_once::<Brand, _>(&rt, blank(&rt, rt.alloc(), SEATS));
@@ -128,7 +128,7 @@ fn calls_from_four_threads(rt: HostRuntime) {
     assert!(rt; verdict == Answer::Legal);
 }
 
-// The results of the calls, and the verdict of the end.
+// Returns the results of the calls, and the verdict at the end.
 fn call_at_once<B: Tag + Send + Sync, R: Threads + Wait + Abort + Sync>(
     rt: &R,
     blank: Blank,

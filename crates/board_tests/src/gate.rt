@@ -1,4 +1,4 @@
-//! When a gate is called.
+//! Tests of the moment at which a gate is called.
 
 use crate::answers::Answer;
 use crate::boards::blank;
@@ -9,10 +9,10 @@ use std::sync::Wait;
 use std::sync::atomic::{AtomicBool, Ordering};
 use waiting::{TURNS, comes};
 
-/// The turns for which a gate holds its call, if no other is answered meanwhile.
+/// The number of turns for which a gate holds its call, if no other call is answered meanwhile.
 const HELD: u32 = 20_000;
 
-// Holds a call before its entry is published, until another call is answered, for some turns.
+// A gate that holds a call before its entry is published, until another call is answered, for a limited number of turns.
 #[derive(Drop)]
 struct Hold {
     begun: AtomicBool,
@@ -28,7 +28,7 @@ impl Gate for Hold {
     fn end(&self, _place: u32) {}
 }
 
-// A call that is made once the held one has begun its gate.
+// Calls once the held call has begun its gate.
 impl DuringCall for Hold {
     fn act<M: SharedBoard, R: Wait>(
         &self,
@@ -45,8 +45,8 @@ impl DuringCall for Hold {
     }
 }
 
-/// A gate begins under the lock: a call that is made while it goes on comes after the held one. Tried by hand: with the
-/// gate's two calls moved out of the lock, the other call is entry 1, and the test fails.
+/// Tests that a gate begins under the lock: a call that is made during the gate comes after the held one. Tried by hand: if both calls of
+/// the gate are moved out of the lock, the other call is entry 1, and the test fails.
 #[test]
 fn gate_begins_under_the_lock(rt: HostRuntime) {
     let hold = Hold {

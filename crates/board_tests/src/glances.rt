@@ -10,8 +10,8 @@ use std::sync::Wait;
 use std::sync::atomic::{AtomicBool, AtomicU32, Ordering};
 use waiting::{TURNS, comes};
 
-/// A seat that learns nothing sees each call of another. So a glance that remembers what it showed, and never enters the
-/// published copy, fails here.
+/// Tests that a seat that learns no news sees each call of another seat. So the test fails for a glance that only remembers what it showed,
+/// and never reads the published copy.
 #[test]
 fn glance_follows_each_call(rt: HostRuntime) {
     let rows = &[
@@ -29,7 +29,7 @@ fn glance_follows_each_call(rt: HostRuntime) {
     assert!(rt; matches!(act_in_turn(&rt, blank(&rt, rt.alloc(), 2), rows), (None, _)));
 }
 
-// A moment of a call of the seat with this number, which lasts until a glance was made, for some turns.
+// A moment of a call of the seat `number`. It lasts until a glance was made, for a limited number of turns.
 #[derive(Drop)]
 struct Moment {
     number: AtomicU32,
@@ -55,12 +55,12 @@ impl Moment {
             .store(comes(&self.glanced, TURNS), Ordering::SeqCst);
     }
 
-    // Whether a glance was made in this moment of a call of that seat.
+    // Returns whether a glance was made in this moment of a call of the seat `number`.
     fn was_met(&self, number: u32) -> bool {
         self.met.load(Ordering::SeqCst) && self.number.load(Ordering::SeqCst) == number
     }
 
-    // The result of a glance in this moment.
+    // Returns the result of a glance in this moment.
     fn glance<M: SharedBoard>(&self, board: &M, seat: &mut M::Seat) -> SeatAnswer {
         if !comes(&self.come, TURNS) {
             return None;
@@ -71,7 +71,7 @@ impl Moment {
     }
 }
 
-// Holds a call under the lock before it publishes, and once more after that.
+// A gate that holds a call under the lock, once before it publishes and once after that.
 #[derive(Drop)]
 struct Meeting {
     before: Moment,
@@ -88,7 +88,7 @@ impl Gate for Meeting {
     }
 }
 
-// A glance before the call publishes, and one after that.
+// Glances before the call publishes, and after that.
 impl DuringCall for Meeting {
     fn act<M: SharedBoard, R: Wait>(
         &self,
@@ -101,8 +101,8 @@ impl DuringCall for Meeting {
     }
 }
 
-/// While a call holds the lock, a glance in another thread answers: before the entry is published without it, and then with it. The gate
-/// gets the seat's number. So a glance that tries the lock, and shows nothing if it is held, fails here.
+/// Tests that a glance in another thread is answered while a call holds the lock. It shows the entry only after the call has published it.
+/// The gate gets the seat's number. So the test fails for a glance that tries the lock and shows nothing if it is held.
 #[test]
 fn glance_answers_while_a_call_holds_the_lock(rt: HostRuntime) {
     let meeting = Meeting {

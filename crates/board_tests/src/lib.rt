@@ -1,5 +1,5 @@
-//! The answers of threads that share a board. Small histories run through the calls of a board and its glances. Each answer is worked out
-//! by hand. It has tests alone.
+//! The answers of threads that share a board. The calls of a board and its glances are tested on small histories. Each answer was found by
+//! hand. The crate has only tests.
 #![tactic(auto)]
 
 #[cfg(test)]

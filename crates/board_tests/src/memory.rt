@@ -4,8 +4,8 @@ use crate::acts::{Act, Line, act_in_turn};
 use crate::answers::Answer;
 use crate::boards::blank;
 
-/// A call that runs out of memory adds no entry: a glance shows the state before it, and the same call again is the next entry. The test
-/// meets this case only if it is run with one allocation that fails, which the gate does not do.
+/// Tests that a call that runs out of memory adds no entry. A glance then shows the state before it, and the repeated call is the next
+/// entry. This case happens only in a run with one failing allocation, and `./check` makes no such run.
 #[test]
 fn want_of_memory_is_no_entry(rt: HostRuntime) {
     let rows = &[

@@ -4,7 +4,7 @@ use crate::acts::{Act, Line, act_in_turn};
 use crate::answers::Answer;
 use crate::boards::blank;
 
-/// A seat that learns the news of an answer sees by its next glance what the caller sees.
+/// Tests that a seat that learns the news of an answer sees at its next glance what the caller sees.
 #[test]
 fn news_carries_what_was_seen(rt: HostRuntime) {
     let rows = &[

@@ -1,4 +1,4 @@
-//! Opening a board.
+//! Tests of the opening of a board.
 
 use crate::acts::{Act, Line, act_in_turn};
 use crate::answers::Answer;
@@ -8,7 +8,7 @@ use harness::Config;
 use kinds::ModelKind;
 use std::alloc::Global;
 
-// The number of the refusal, or 0.
+// Returns the number of the refusal, or 0 if there is none.
 fn refusal_of(alloc: Global, config: Config, seats: u32) -> u8 {
     match Blank::new(alloc, config, seats) {
         Ok(_blank) => 0,
@@ -22,7 +22,7 @@ fn config(alloc: Global, concurrency: u32, budget: u32, replicas: u8) -> Config 
     config
 }
 
-/// Seats are 1 to 64, and what the object refuses comes first.
+/// Tests that a board has 1 to 64 seats, and that the refusals of the object have priority.
 #[test]
 fn refusals_in_order(rt: HostRuntime) {
     for (concurrency, budget, replicas, seats, why) in [
@@ -41,7 +41,7 @@ fn refusals_in_order(rt: HostRuntime) {
     }
 }
 
-/// Before any call a glance shows none, and the verdict asked for first is entry 1.
+/// Tests that a glance before any call shows 0 calls, and that a first request for the verdict is entry 1.
 #[test]
 fn verdict_of_nothing(rt: HostRuntime) {
     let rows = &[

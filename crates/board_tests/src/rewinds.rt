@@ -4,8 +4,9 @@ use crate::acts::{Act, Line, act_in_turn};
 use crate::answers::Answer;
 use crate::boards::blank;
 
-/// One seat takes back events, and the other sees them as if they had never come, once it has the news; and it goes on from there. Key 7 is
-/// written 3 and read as 4. The seat takes the read's end back, and then the read answers 3. There are no nine events.
+/// Tests rewinds between the calls of two seats. One seat cuts events. Once the other seat has the news, it sees a history without them,
+/// and continues from there. Key 7 is written 3 and read as 4. A seat cuts the read's ok, and then the read answers 3. A rewind to nine
+/// events is refused.
 #[test]
 fn rewinds_between_calls_of_two_seats(rt: HostRuntime) {
     let rows = &[

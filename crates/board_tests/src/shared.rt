@@ -1,18 +1,18 @@
-//! A board, as threads see it that share it.
+//! A board, as the threads that share it see it.
 use crate::answers::{Answer, answer_of, seen_of};
 use board::{Board, Seat, Tag};
 use edn::Gate;
 use harness::Command;
 use std::sync::Wait;
 
-/// A board that threads share, each by a seat of its own. A call asks for the verdict.
+/// A board that threads share. Each thread has a seat of its own. A call asks for the verdict.
 pub trait SharedBoard {
     type Seat;
 
-    /// The number of the entry, and what was said.
+    /// Returns the number of the entry, and its answer.
     fn call<R: Wait>(&self, rt: &R, seat: &mut Self::Seat) -> (u64, Answer);
 
-    /// A call that has a gate.
+    /// Calls with a gate. Returns the number of the entry, and its answer.
     fn call_with_gate<G: Gate, R: Wait>(
         &self,
         rt: &R,
@@ -20,7 +20,7 @@ pub trait SharedBoard {
         gate: &G,
     ) -> (u64, Answer);
 
-    /// How many calls had been made, and the verdict after them.
+    /// Returns the number of published calls, and the verdict after them.
     fn glance(&self, seat: &mut Self::Seat) -> Option<(u64, Answer)>;
 }
 

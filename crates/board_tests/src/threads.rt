@@ -1,4 +1,4 @@
-//! Seats that go to threads.
+//! Seats that are sent to other threads.
 ghost use Rattle.std.specs.Prelude.{◌≡◌};
 
 use crate::answers::{Answer, plain_of};
@@ -13,7 +13,7 @@ use std::sync::atomic::{AtomicU64, Ordering};
 use std::thread;
 use std::thread::Threads;
 
-// One call; the number of its entry is added to the others.
+// Calls once, and adds the number of the entry to `numbers`.
 fn call_once<M: SharedBoard, R: Wait>(
     rt: &R,
     board: &M,
@@ -25,7 +25,7 @@ fn call_once<M: SharedBoard, R: Wait>(
     seat
 }
 
-// Each seat calls once in a thread of its own, and comes back.
+// Lets each seat call once in a thread of its own, and returns the seats.
 fn send_all<M: SharedBoard + Sync, R: Threads + Wait + Sync>(
     rt: &R,
     board: &M,
@@ -38,15 +38,15 @@ where
     thread::map_vec(rt, seats, &|seat| call_once(rt, board, seat, numbers))
 }
 
-/// Each seat goes to a thread of its own, calls there, and comes back to the one that ends the board. All that is asked of
-/// the tag for it is `Send + Sync`.
+/// Tests seats that are sent to threads of their own, call there, and come back to the thread that ends the board. The tag needs only `Send
+/// + Sync` for this.
 #[test]
 fn seats_go_to_threads_and_back(rt: HostRuntime) {
     let ended = send_and_end::<Brand, _>(&rt, rt.alloc(), blank(&rt, rt.alloc(), 4));
     assert!(rt; ended == (10, Answer::Legal));
 }
 
-// The numbers of the entries in all, and the verdict of the end.
+// Returns the sum of the entries' numbers, and the verdict at the end.
 fn send_and_end<B: Tag + Send + Sync, R: Threads + Wait + Abort + Sync>(
     rt: &R,
     alloc: Global,

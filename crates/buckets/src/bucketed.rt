@@ -1,12 +1,12 @@
-//! Things that have a bucket.
+//! Items that have a bucket.
 ghost use Rattle.std.specs.Prelude.{◌≡◌, ℕ, ◌<◌, ◌^◌};
 ghost use Rattle.buckets.specs.Index.{hash_bucket, word_bucket};
 
-/// A thing that has a bucket, of a given number of buckets.
+/// An item that has a bucket, for each number of buckets.
 pub trait Bucketed: Copy {
     ghost bucket: { ℕ → Self → ℕ };
 
-    /// The bucket, of `many` buckets. Takes constant time.
+    /// Returns the bucket of the item among `many` buckets. Takes constant time.
     fn bucket(self, many: usize) -> usize
         requires some { 0 < many }
         requires few { many < 2 ^ 32 }
@@ -14,7 +14,7 @@ pub trait Bucketed: Copy {
         ensures within { result < many };
 }
 
-/// A word is in the bucket that its two halves, each multiplied, give.
+/// The bucket of a word comes from its two halves, each of which is multiplied.
 impl Bucketed for u128 {
     ghost bucket = { word_bucket };
 
@@ -29,7 +29,7 @@ impl Bucketed for u128 {
     }
 }
 
-/// A hash is in the bucket that its first bits give.
+/// The bucket of a hash comes from its first bits.
 impl Bucketed for u64 {
     ghost bucket = { hash_bucket };
 

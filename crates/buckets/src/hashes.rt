@@ -1,4 +1,4 @@
-//! Hashes of values, and their index.
+//! Hashes of values, and an index of hashes.
 ghost use Rattle.std.specs.Prelude.{◌≡◌, ◌<◌, length, OnOk};
 ghost use Rattle.buckets.specs.Hashes.{hash_by};
 ghost use Rattle.buckets.specs.Index.{Indexes, hash_bucket};
@@ -7,10 +7,10 @@ use crate::index::{Index, index_all};
 use std::alloc::AllocError;
 use std::hash::{FoldHasher, Hash, Hasher};
 
-// There are always fewer hashes in an index, since its places are of 32 bits.
+// An index has fewer hashes than this, since its places have 32 bits.
 const MANY: usize = 1073741820;
 
-/// The hash of the value. Costs O(the bytes that the value feeds).
+/// Returns the hash of the value. Costs O(bytes that the value feeds into the hash).
 #[tactic(auto, unfolding(crate::specs::Hashes::hash_by))]
 pub fn hash_of<T: Hash>(value: &T) -> u64
     ensures { result ≡ hash_by T.hash_input value.now }
@@ -20,8 +20,8 @@ pub fn hash_of<T: Hash>(value: &T) -> u64
     hasher.finish()
 }
 
-/// Indexes all hashes, by more buckets than there are hashes. `AllocError` if memory was refused, or if there are too many hashes for
-/// places of 32 bits. Costs O(hashes that are not indexed yet), and O(all hashes) if new buckets are made.
+/// Indexes all hashes, with more buckets than hashes. `AllocError` if an allocation fails, or if there are too many hashes for places of 32
+/// bits. Costs O(hashes that are not indexed yet), and O(all hashes) if new buckets are made.
 #[inline(never)]
 pub fn index_hashes(hashes: &[u64], index: &mut Index) -> Result<(), AllocError>
     requires index { Indexes hash_bucket hashes.now index.old.last.items index.old.before.items }

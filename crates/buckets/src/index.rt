@@ -1,24 +1,24 @@
-//! An index of the places of things, by buckets.
+//! An index of the items of a list, by buckets.
 ghost use Rattle.std.specs.Prelude.{◌≡◌, ℕ, ◌+◌, ◌<◌, ◌≤◌, ◌^◌, [], ◌∷◌, ◌++◌, length, get_or, vec_capacity, None, true, false, map, IfSome, OnOk};
 ghost use Rattle.buckets.specs.Index.{Indexes};
 
 use crate::bucketed::Bucketed;
 use std::alloc::{AllocError, Global};
 
-/// The index of the first things of a list. It keeps the place of a thing plus one, or zero if there is none.
+/// The index of the first items of a list. It stores the place of an item plus one, or zero for no item.
 #[derive(Drop)]
 pub struct Index {
-    /// The place of the last thing of each bucket.
+    /// The place of the last item of each bucket.
     pub last: Vec<u32>,
-    /// For each thing the place of the one before it in its bucket.
+    /// For each item the place of the previous item in its bucket.
     pub before: Vec<u32>,
 }
 
-// There are never more buckets.
+// The number of buckets is at most this.
 const MOST: usize = 4294967295;
 
 impl Index {
-    /// An index of nothing, with no buckets.
+    /// Returns an index without items and buckets.
     #[inline(always)]
     pub fn new(alloc: Global) -> Index
         ensures last { result.last.items ≡ [] }
@@ -30,7 +30,7 @@ impl Index {
         }
     }
 
-    /// Takes all things and all buckets out, and keeps their memory.
+    /// Removes all items and all buckets from the index, and keeps its memory.
     #[inline(always)]
     pub fn clear(&mut self)
         ensures last { self.new.last.items ≡ [] }
@@ -41,7 +41,7 @@ impl Index {
     }
 }
 
-// Indexes the first thing that is not.
+// Indexes the first item that is not indexed yet.
 fn index_one<T: Bucketed>(items: &[T], index: &mut Index) -> Result<(), AllocError>
     requires index { Indexes T.bucket items.now
         index.old.last.items index.old.before.items }
@@ -60,7 +60,8 @@ fn index_one<T: Bucketed>(items: &[T], index: &mut Index) -> Result<(), AllocErr
     Ok(())
 }
 
-// Removes all things, and makes `wanted` buckets, or up to four times as many if there is memory.
+// Removes all items from the index, and makes at least `wanted` buckets. Makes up to four times as many if the allocated memory has room
+// for them.
 fn make_buckets(wanted: usize, index: &mut Index) -> Result<(), AllocError>
     requires { wanted < 2 ^ 32 }
     ensures none { index.new.before.items ≡ [] }
@@ -83,9 +84,9 @@ fn make_buckets(wanted: usize, index: &mut Index) -> Result<(), AllocError>
     Ok(())
 }
 
-/// Indexes all things. If there are not more buckets than things, makes `wanted` buckets, or up to four times as many if there is memory.
-/// `AllocError` if there is no memory for the buckets or for a place. Costs O(things that are not indexed yet), and O(all things) if new
-/// buckets are made.
+/// Indexes all items. Makes new buckets if they do not outnumber the items: at least `wanted`, and up to four times as many if the
+/// allocated memory has room. `AllocError` if an allocation for the buckets or for a place fails. Costs O(items that are not indexed yet),
+/// and O(all items) if new buckets are made.
 #[inline(never)]
 pub fn index_all<T: Bucketed>(
     items: &[T],
@@ -110,7 +111,8 @@ pub fn index_all<T: Bucketed>(
     Ok(())
 }
 
-/// Puts the thing behind the others, which are all indexed: it is in this bucket. There is room for it. Takes constant time.
+/// Appends an item to the list and indexes it. `its` is its bucket. All other items are indexed, and the memory has room. Takes constant
+/// time.
 #[inline(always)]
 pub fn put_behind<T: Bucketed>(items: &mut Vec<T>, index: &mut Index, its: usize, item: T)
     requires index { Indexes T.bucket items.old.items
@@ -130,8 +132,8 @@ pub fn put_behind<T: Bucketed>(items: &mut Vec<T>, index: &mut Index, its: usize
     index.last[its] = items.len() as u32;
 }
 
-/// The place of the last wanted thing in this bucket, if there is one. All things are indexed. Tests that thing and the ones behind it in
-/// the bucket.
+/// Returns the place of the last wanted item in the bucket `its`, if there is one. All items are indexed. Tests this item, and the items
+/// after it in the bucket.
 #[inline(always)]
 pub fn find<T: Bucketed, F: Fn(usize) -> bool>(
     items: &[T],

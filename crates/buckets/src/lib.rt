@@ -1,10 +1,10 @@
-//! The index of a list that grows and shrinks at its end, by buckets.
+//! An index, by buckets, of a list that grows and shrinks at its end.
 //!
-//! A bucket has the place of its last thing, and each thing has the place of the thing before it in its bucket. So a look-up goes back
-//! through one bucket, and the last thing is removed in constant time. Things are words or hashes ([`Bucketed`]). Anything else is indexed
-//! by its hash ([`hash_of`], [`index_hashes`]).
+//! A bucket has the place of its last item, and each item has the place of the previous item in its bucket. So a look-up goes back through
+//! one bucket, and the last item is removed in constant time. Items are words or hashes ([`Bucketed`]). All other values are indexed by
+//! their hashes ([`hash_of`], [`index_hashes`]).
 //!
-//! A call takes memory only if its result can be `AllocError`.
+//! A call allocates only if its result can be `AllocError`.
 #![tactic(auto)]
 
 mod bucketed;

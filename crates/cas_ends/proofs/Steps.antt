@@ -1,7 +1,7 @@
 -- the steps of a register with compare and set
 use Rattle.std.proofs.Common.{◌≡◌, ℤ, ◌⊎◌, inl, inr, ⊎_elim, Option, Some, List, [], ◌∷◌, refl, sym, ap, ◌∙◌, subst}
 use Rattle.models.specs.declared.operation.Name.{Name}
-use Rattle.models.specs.declared.operation.Name.TheVariants.{Read, Write, Cas, Acquire, Release, Enqueue, Dequeue, Add}
+use Rattle.models.specs.declared.operation.Name.TheVariants.{Read, Write, Cas, Acquire, Release, Enqueue, Dequeue, Add, Own}
 use Rattle.models.specs.declared.operation.Part.{Part}
 use Rattle.models.specs.declared.operation.Part.TheVariants.{Nil, Int, Pair, Set}
 use Rattle.models.specs.declared.operation.Op.{Op}
@@ -48,6 +48,7 @@ view Release part s t found h = absurd h
 view Enqueue part s t found h = absurd h
 view Dequeue part s t found h = absurd h
 view Add part s t found h = absurd h
+view (Own number) part s t found h = absurd h
 
 pub step_view : (op : Op) (s t : Option ℤ) (found : Found) → cas_register.Steps s op found t → View op.name op.part s found t
 step_view op s t found h = view op.name op.part s t found h

@@ -1,4 +1,4 @@
-//! Laws of the ends of registers with compare and set.
+//! Laws about the ends of registers with compare and set.
 ghost use Rattle.std.specs.Prelude.{◌≡◌, ◌↔◌, ℕ, ◌<◌, List, ◌∷◌, ◌++◌, [], length};
 ghost use Rattle.std.specs.List.{Contains};
 ghost use Rattle.models.specs.Objects.{cas_register};
@@ -9,8 +9,8 @@ ghost use Rattle.linspec.specs.Verdicts.{EndsShortestBadPrefix};
 ghost use Rattle.linspec.specs.LeanEnds.{LeanEnd};
 ghost use Rattle.linspec.specs.CasEnds.{IsCasEnd, AreCasEnds, Front, AreFronts, HasMoreFronts};
 
-/// A history of a register with compare and set is linearizable exactly if it has an end. Nothing is lost if ends that are at most another one
-/// are left out at each event.
+/// A history of a register with compare and set is linearizable if and only if it has an end. This stays true if each event drops the ends
+/// that are at most another end.
 pub fn ends_law()
     ensures some { (marks : List Mark) → AreWellFormed marks
         → IsLinearizable cas_register marks ↔ ((e : LeanEnd) × IsCasEnd marks e) }
@@ -18,8 +18,8 @@ pub fn ends_law()
         → IsLinearizable cas_register marks ↔ ((e : LeanEnd) × Contains ends e) }
 {}
 
-/// The number of ends of a history, and that of their fronts, do not depend on how they are found, and a history with more fronts than n is
-/// linearizable.
+/// The number of ends of a history and the number of their fronts do not depend on the way in which they are found. A history with more
+/// than n fronts is linearizable.
 pub fn count_law()
     ensures ends { (marks : List Mark) (ends others : List LeanEnd) → AreCasEnds marks ends → AreCasEnds marks others
         → length ends ≡ length others }
@@ -31,7 +31,7 @@ pub fn count_law()
     ensures order { (marks : List Mark) (n : ℕ) → HasMoreFronts marks n → IsLinearizable cas_register marks }
 {}
 
-/// The history of a register with compare and set becomes illegal at the event that leaves none of its ends.
+/// The history of a register with compare and set becomes illegal at the event after which it has no end.
 pub fn illegal_at_law()
     ensures { (entries : List Entry) (last : Entry) → AreWellFormed (marks entries)
         → EndsShortestBadPrefix cas_register entries last

@@ -1,5 +1,6 @@
-//! Laws of registers with compare and set: an order of the operations needs an open or timed-out write only if an answer or a compare and set
-//! asks for it. So a history has few ends, each of which event by event becomes others, and it is linearizable exactly as long as one is left.
+//! Laws about registers with compare and set. An order of the operations needs an open or timed-out write only if an answer or a compare
+//! and set requires it. So a history has few ends. Each event turns each end into others, and the history is linearizable as long as an end
+//! is left.
 #![tactic(auto)]
 
 pub mod laws;

@@ -1,2 +1,4 @@
 pub mod Recording
+pub mod ReadInPart
+pub mod FromReader
 pub mod OneReport

@@ -8,13 +8,14 @@ use Rattle.std.specs.Io.KnownBytes.{Consumes}
 use Rattle.std.proofs.lemmas.Fmt.{decimal-digits_of}
 use Rattle.std.proofs.lemmas.List.{append_assoc, append-nil}
 use Rattle.std.proofs.Math.Seq.{take-append_seam}
-use Rattle.edn.specs.Value.{Value, Values, none, more, joined}
+use Rattle.edn_values.specs.Value.{Value, Values, none, more, joined}
 use Rattle.edn.specs.Text.{IsText}
 use Rattle.edn.specs.Elements.{IsLeftBehind, count_of}
 use Rattle.edn.specs.declared.refusal.Refusal.{Refusal}
 use Rattle.edn.specs.declared.refusal.Refusal.TheVariants.{NoMemory, ReadFailed}
 use Rattle.kinds.specs.declared.model_kind.ModelKind.{ModelKind}
 use Rattle.events.specs.declared.event.Event.{Event}
+use Rattle.events.specs.OwnNames.{OwnNames}
 use Rattle.history.specs.WellFormed.{Refuses, MayRefuse}
 use Rattle.linspec.specs.declared.verdict.Verdict.{Verdict}
 use Rattle.linspec.specs.JudgedHistory.{IsVerdictOn, opening_of, rewound}
@@ -77,29 +78,29 @@ module _ (before after : Option (List ℕ)) (write_failed is_flushed : Bool) (st
   told_event i why (Err e) is put = (Refused NoMemory, inr (refl, λ e. cc), put)
 
 -- the finding if all was taken is that of the bytes
-pub all_taken : (setup : Setup) → IsSetup setup → (bytes : List ℕ) (end : Machine) → IsTaken setup bytes end → (found : Findings) → Finds end found → ComesTo setup bytes found
-all_taken setup opens bytes end is (Judged verdict text) finds = (opens, (end, is, finds))
-all_taken setup opens bytes end is (RefusedEvent i why) finds = absurd finds
-all_taken setup opens bytes end is (Refused why) finds = subst (λ w. ComesTo setup bytes (Refused w)) (sym finds) (inl (opens, tt))
+pub all_taken : (own : OwnNames) (setup : Setup) → IsSetup setup → (bytes : List ℕ) (end : Machine) → IsTaken own setup bytes end → (found : Findings) → Finds end found → ComesTo own setup bytes found
+all_taken own setup opens bytes end is (Judged verdict text) finds = (opens, (end, is, finds))
+all_taken own setup opens bytes end is (RefusedEvent i why) finds = absurd finds
+all_taken own setup opens bytes end is (Refused why) finds = subst (λ w. ComesTo own setup bytes (Refused w)) (sym finds) (inl (opens, tt))
 
 -- the judged history of a loaded monitor
 pub loaded_now : (monitor : MonitorView) (c : ℕ) (kind : ModelKind) (budget : ℕ) (events : List Event) → monitor ≡ at_rest (with_events events (opening_of c kind budget)) 0 → monitor.now ≡ with_all c kind budget events
 loaded_now monitor c kind budget events is = ap (λ m. m.now) is ∙ events_in_turn events (opening_of c kind budget)
 
 -- the reader has not failed, if it is not said that it has
-unfailed : (setup : Setup) (left : Option (List ℕ)) (read_failed : Bool) (input : List ℕ) (findings : Findings) → IsFound setup input left read_failed findings → findings ≢ Refused ReadFailed → read_failed ≡ false
-unfailed setup left read_failed input findings found other = ⊎_elim (λ a. a.1) (λ b. ⊎_elim (λ failed. absurd (other failed.0)) (λ memory. memory.1) b) found
+unfailed : (own : OwnNames) (setup : Setup) (left : Option (List ℕ)) (read_failed : Bool) (input : List ℕ) (findings : Findings) → IsFound own setup input left read_failed findings → findings ≢ Refused ReadFailed → read_failed ≡ false
+unfailed own setup left read_failed input findings found other = ⊎_elim (λ a. a.1) (λ b. ⊎_elim (λ failed. absurd (other failed.0)) (λ memory. memory.1) b) found
 
 -- the written findings are those that were found, or out of memory
-pub checks : (setup : Setup) (left left' : Option (List ℕ)) (read_failed : Bool) (before after : Option (List ℕ)) (write_failed is_flushed : Bool) (status : ℕ) (input : List ℕ) → Consumes left left' input
-    → (findings : Findings) → IsFound setup input left' read_failed findings → (told : Findings) → StandsFor told findings → IsTold told before after write_failed is_flushed status
-    → Checks setup left left' read_failed before after write_failed is_flushed status
-checks setup left left' read_failed before after write_failed is_flushed status input read findings found told which tells = record {
+pub checks : (own : OwnNames) (setup : Setup) (left left' : Option (List ℕ)) (read_failed : Bool) (before after : Option (List ℕ)) (write_failed is_flushed : Bool) (status : ℕ) (input : List ℕ) → Consumes left left' input
+    → (findings : Findings) → IsFound own setup input left' read_failed findings → (told : Findings) → StandsFor told findings → IsTold told before after write_failed is_flushed status
+    → Checks own setup left left' read_failed before after write_failed is_flushed status
+checks own setup left left' read_failed before after write_failed is_flushed status input read findings found told which tells = record {
   input = input;
   read = read;
   findings = told;
-  found = ⊎_elim (λ same. subst (IsFound setup input left' read_failed) (sym same) found)
-      (λ memory. inr (inr (memory.0, unfailed setup left' read_failed input findings found memory.1))) which;
+  found = ⊎_elim (λ same. subst (IsFound own setup input left' read_failed) (sym same) found)
+      (λ memory. inr (inr (memory.0, unfailed own setup left' read_failed input findings found memory.1))) which;
   told = tells;
 }
 
@@ -109,37 +110,37 @@ reads_none None = tt
 reads_none (Some l) = refl
 
 -- a file that could not be opened
-pub checks_none : (setup : Setup) (held before after : Option (List ℕ)) (write_failed is_flushed : Bool) (status : ℕ) (told : Findings) → StandsFor told (Refused ReadFailed) → IsTold told before after write_failed is_flushed status
-    → Checks setup held held true before after write_failed is_flushed status
-checks_none setup held before after write_failed is_flushed status told which tells = checks setup held held true before after write_failed is_flushed status [] (reads_none held) (Refused ReadFailed) (inr (inl (refl, refl))) told which tells
+pub checks_none : (own : OwnNames) (setup : Setup) (held before after : Option (List ℕ)) (write_failed is_flushed : Bool) (status : ℕ) (told : Findings) → StandsFor told (Refused ReadFailed) → IsTold told before after write_failed is_flushed status
+    → Checks own setup held held true before after write_failed is_flushed status
+checks_none own setup held before after write_failed is_flushed status told which tells = checks own setup held held true before after write_failed is_flushed status [] (reads_none held) (Refused ReadFailed) (inr (inl (refl, refl))) told which tells
 
 -- the read bytes of an opened file are those that it holds, if that is known
 pub consumes_held : (held left left' : Option (List ℕ)) (input : List ℕ) → IfSome held (λ bytes. left ≡ Some bytes) → Consumes left left' input → Consumes held left' input
 consumes_held None left left' input is read = tt
 consumes_held (Some bytes) left left' input is read = subst (λ l. Consumes l left' input) is read
 
-pub checks_held : (setup : Setup) (held left left' : Option (List ℕ)) (read_failed : Bool) (before after : Option (List ℕ)) (write_failed is_flushed : Bool) (status : ℕ) → IfSome held (λ bytes. left ≡ Some bytes)
-    → Checks setup left left' read_failed before after write_failed is_flushed status → Checks setup held left' read_failed before after write_failed is_flushed status
-checks_held setup held left left' read_failed before after write_failed is_flushed status is c =
+pub checks_held : (own : OwnNames) (setup : Setup) (held left left' : Option (List ℕ)) (read_failed : Bool) (before after : Option (List ℕ)) (write_failed is_flushed : Bool) (status : ℕ) → IfSome held (λ bytes. left ≡ Some bytes)
+    → Checks own setup left left' read_failed before after write_failed is_flushed status → Checks own setup held left' read_failed before after write_failed is_flushed status
+checks_held own setup held left left' read_failed before after write_failed is_flushed status is c =
     record { input = c.input; read = consumes_held held left left' c.input is c.read; findings = c.findings; found = c.found; told = c.told }
 
 -- elements that are pushed, in turn
-pub PushesAll-more : (c : ℕ) (old : List Event) (vs : Values) (mid new : List Event) (v : Value) → PushesAll c old vs mid → PushesElement c mid v new → PushesAll c old (joined vs (more v none)) new
-PushesAll-more c old none mid new v same next = (new, subst (λ l. PushesElement c l v new) same next, refl)
-PushesAll-more c old (more w vs) mid new v all next = (all.0, all.1, PushesAll-more c all.0 vs mid new v all.2 next)
+pub PushesAll-more : (own : OwnNames) (c : ℕ) (old : List Event) (vs : Values) (mid new : List Event) (v : Value) → PushesAll own c old vs mid → PushesElement own c mid v new → PushesAll own c old (joined vs (more v none)) new
+PushesAll-more own c old none mid new v same next = (new, subst (λ l. PushesElement own c l v new) same next, refl)
+PushesAll-more own c old (more w vs) mid new v all next = (all.0, all.1, PushesAll-more own c all.0 vs mid new v all.2 next)
 
 pub count-more : (vs : Values) (v : Value) → count_of (joined vs (more v none)) ≡ count_of vs + 1
 count-more none v = refl
 count-more (more w vs) v = ap (λ n. n + 1) (count-more vs v)
 
-joined-assoc : (us vs ws : Values) → joined (joined us vs) ws ≡ joined us (joined vs ws)
+pub joined-assoc : (us vs ws : Values) → joined (joined us vs) ws ≡ joined us (joined vs ws)
 joined-assoc none vs ws = refl
 joined-assoc (more u us) vs ws = ap (more u) (joined-assoc us vs ws)
 
 -- the next one is refused
-pub read_up_to : (bytes : List ℕ) (values : Values) → IsText bytes values → (pushed : Values) (v : Value) (left : List ℕ) → IsLeftBehind bytes (joined pushed (more v none)) left
-    → (c : ℕ) (old events : List Event) → PushesAll c old pushed events → (i : ℕ) → count_of pushed ≡ i → (why : Refusal) → RefusesNext c events v why → IsReadUpTo bytes c old events i why
-read_up_to bytes values text pushed v left behind c old events pushes i counted why refuses =
+pub read_up_to : (own : OwnNames) (bytes : List ℕ) (values : Values) → IsText bytes values → (pushed : Values) (v : Value) (left : List ℕ) → IsLeftBehind bytes (joined pushed (more v none)) left
+    → (c : ℕ) (old events : List Event) → PushesAll own c old pushed events → (i : ℕ) → count_of pushed ≡ i → (why : Refusal) → RefusesNext own c events v why → IsReadUpTo own bytes c old events i why
+read_up_to own bytes values text pushed v left behind c old events pushes i counted why refuses =
     let rest = behind.complete values text in
     record {
       pushed = pushed;
@@ -157,10 +158,10 @@ declined c events e NoMemory h other = absurd (other refl)
 declined c events e _ h other = h
 
 -- the pushed events come behind the old ones
-pushed_behind : (c : ℕ) (old : List Event) (vs : Values) (new : List Event) → PushesAll c old vs new → (events : List Event) × (new ≡ old ++ events)
-pushed_behind c old none new same = ([], same ∙ sym (append-nil old))
-pushed_behind c old (more v vs) new all =
-    let after = pushed_behind c all.0 vs new all.2 in
+pushed_behind : (own : OwnNames) (c : ℕ) (old : List Event) (vs : Values) (new : List Event) → PushesAll own c old vs new → (events : List Event) × (new ≡ old ++ events)
+pushed_behind own c old none new same = ([], same ∙ sym (append-nil old))
+pushed_behind own c old (more v vs) new all =
+    let after = pushed_behind own c all.0 vs new all.2 in
     (all.1.0 ∷ after.0, after.1 ∙ ap (λ l. l ++ after.0) all.1.3 ∙ append_assoc old (all.1.0 ∷ []) after.0)
 
 -- the machine that is opened so, once these events came
@@ -170,29 +171,29 @@ machine_with setup events = record (opening setup) { judged = with_all setup.con
 with_one : (setup : Setup) (old new : List Event) (e : Event) → new ≡ old ++ e ∷ [] → machine_with setup new ≡ appended e (machine_with setup old)
 with_one setup old new e is = ap (machine_with setup) is
 
-admitted : (setup : Setup) (old : List Event) (vs : Values) (new : List Event) → PushesAll setup.concurrency old vs new → AdmitsAll (machine_with setup old) vs (machine_with setup new)
-admitted setup old none new same = ap (machine_with setup) same
-admitted setup old (more v vs) new all =
-    (machine_with setup all.0, (all.1.0, all.1.1, all.1.2, with_one setup old all.0 all.1.0 all.1.3), admitted setup all.0 vs new all.2)
+admitted : (own : OwnNames) (setup : Setup) (old : List Event) (vs : Values) (new : List Event) → PushesAll own setup.concurrency old vs new → AdmitsAll own (machine_with setup old) vs (machine_with setup new)
+admitted own setup old none new same = ap (machine_with setup) same
+admitted own setup old (more v vs) new all =
+    (machine_with setup all.0, (all.1.0, all.1.1, all.1.2, with_one setup old all.0 all.1.0 all.1.3), admitted own setup all.0 vs new all.2)
 
-refuses_element : (setup : Setup) (events : List Event) (v : Value) (why : Refusal) → RefusesNext setup.concurrency events v why → RefusesElement (machine_with setup events) v why
-refuses_element setup events v why refuses = ⊎_elim (λ none. inl none) (λ one. inr (one.0, one.1, (one.2, refl))) refuses
+refuses_element : (own : OwnNames) (setup : Setup) (events : List Event) (v : Value) (why : Refusal) → RefusesNext own setup.concurrency events v why → RefusesElement own (machine_with setup events) v why
+refuses_element own setup events v why refuses = ⊎_elim (λ none. inl none) (λ one. inr (one.0, one.1, (one.2, refl))) refuses
 
 -- the first element that the history refuses is the first that the machine refuses
-pub refused_at : (setup : Setup) (bytes : List ℕ) (events : List Event) (i : ℕ) (why : Refusal) → IsReadUpTo bytes setup.concurrency [] events i why → IsRefusedAt setup bytes i why
-refused_at setup bytes events i why read = record {
+pub refused_at : (own : OwnNames) (setup : Setup) (bytes : List ℕ) (events : List Event) (i : ℕ) (why : Refusal) → IsReadUpTo own bytes setup.concurrency [] events i why → IsRefusedAt own setup bytes i why
+refused_at own setup bytes events i why read = record {
   taken = read.pushed;
   next = read.next;
   later = read.later;
   text = read.text;
   counted = read.counted;
   machine = machine_with setup events;
-  admits = admitted setup [] read.pushed events read.pushes;
-  refuses = refuses_element setup events read.next why read.refuses;
+  admits = admitted own setup [] read.pushed events read.pushes;
+  refuses = refuses_element own setup events read.next why read.refuses;
 }
 
 -- a history that has a verdict at each length was taken with a verdict on each event
-module _ (setup : Setup) (whole : List Event) (verdicts : (n : ℕ) → (v : Verdict) × IsVerdictOn (rewound n (with_all setup.concurrency setup.kind setup.budget whole)) v) where
+module _ (own : OwnNames) (setup : Setup) (whole : List Event) (verdicts : (n : ℕ) → (v : Verdict) × IsVerdictOn (rewound n (with_all setup.concurrency setup.kind setup.budget whole)) v) where
   verdict_at : (events others : List Event) → whole ≡ events ++ others → (v : Verdict) × IsVerdictOn (with_all setup.concurrency setup.kind setup.budget events) v
   verdict_at events others is =
       let said = verdicts (length events) in (
@@ -200,20 +201,20 @@ module _ (setup : Setup) (whole : List Event) (verdicts : (n : ℕ) → (v : Ver
         subst (λ l. IsVerdictOn (with_all setup.concurrency setup.kind setup.budget l) said.0) (ap (take (length events)) is ∙ take-append_seam events others) said.1,
       )
 
-  taken_from : (old : List Event) (vs : Values) → PushesAll setup.concurrency old vs whole → TakesAll (machine_with setup old) vs (machine_with setup whole)
+  taken_from : (old : List Event) (vs : Values) → PushesAll own setup.concurrency old vs whole → TakesAll own (machine_with setup old) vs (machine_with setup whole)
   taken_from old none same = ap (machine_with setup) same
   taken_from old (more v vs) all =
-      let behind = pushed_behind setup.concurrency all.0 vs whole all.2 in
+      let behind = pushed_behind own setup.concurrency all.0 vs whole all.2 in
       let said = verdict_at all.0 behind.0 behind.1 in
       (machine_with setup all.0, (all.1.0, Says said.0, all.1.1, (all.1.2, with_one setup old all.0 all.1.0 all.1.3, said.1)), taken_from all.0 vs all.2)
 
-  pub taken : (bytes : List ℕ) (values : Values) → IsText bytes values → PushesAll setup.concurrency [] values whole → IsTaken setup bytes (machine_with setup whole)
+  pub taken : (bytes : List ℕ) (values : Values) → IsText bytes values → PushesAll own setup.concurrency [] values whole → IsTaken own setup bytes (machine_with setup whole)
   taken bytes values text pushes = record { values = values; text = text; takes = taken_from [] values pushes }
 
 -- the finding for a whole history that was read from the bytes is that of the bytes
-pub whole_comes_to : (setup : Setup) → IsSetup setup → (bytes : List ℕ) (events : List Event) → IsRead bytes setup.concurrency [] events None → (r : Result Findings Refusal)
+pub whole_comes_to : (own : OwnNames) (setup : Setup) → IsSetup setup → (bytes : List ℕ) (events : List Event) → IsRead own bytes setup.concurrency [] events None → (r : Result Findings Refusal)
     → ((end : Machine) → end.judged ≡ with_all setup.concurrency setup.kind setup.budget events → IfOk r (Finds end))
-    → OnOk r ((n : ℕ) → (v : Verdict) × IsVerdictOn (rewound n (with_all setup.concurrency setup.kind setup.budget events)) v) → IfOk r (ComesTo setup bytes)
-whole_comes_to setup opens bytes events read (Ok found) finds verdicts =
-    all_taken setup opens bytes (machine_with setup events) (taken setup events verdicts bytes read.0 read.1 read.2) found (finds (machine_with setup events) refl)
-whole_comes_to setup opens bytes events read (Err why) finds verdicts = tt
+    → OnOk r ((n : ℕ) → (v : Verdict) × IsVerdictOn (rewound n (with_all setup.concurrency setup.kind setup.budget events)) v) → IfOk r (ComesTo own setup bytes)
+whole_comes_to own setup opens bytes events read (Ok found) finds verdicts =
+    all_taken own setup opens bytes (machine_with setup events) (taken own setup events verdicts bytes read.0 read.1 read.2) found (finds (machine_with setup events) refl)
+whole_comes_to own setup opens bytes events read (Err why) finds verdicts = tt

@@ -1,15 +1,22 @@
-//! A recorded history, from its bytes to the text of its report or of its refusal.
-ghost use Rattle.std.specs.Prelude.{◌≡◌, ◌≤◌, false};
+//! Checks of a recorded history, from its bytes to the text of its report or of its refusal.
+ghost use Rattle.std.specs.Prelude.{◌≡◌, ◌≤◌, ℕ, Bool, false, List, Option};
+ghost use Rattle.std.specs.Io.KnownBytes.{Consumes};
 ghost use Rattle.check_command.specs.declared.recorded.Findings.{Findings};
 ghost use Rattle.harness.specs.Setups.{setup_of};
+ghost use Rattle.events.specs.OwnNames.{OwnNames, own_by};
+ghost use Rattle.object_kinds.specs.Objects.{names_of};
 ghost use Rattle.check_command.specs.Checks.{Checks, ChecksFile, IsTold, StandsFor};
+ghost use Rattle.check_command.specs.FromReader.{IsReadHistory};
 
+use crate::from_reader::{judge_read, opened, read_history};
 use crate::opening::Opens;
-use crate::recorded::{Findings, event_text, judge_text};
+use crate::recorded::{Findings, event_text};
 use crate::telling::{put_refusal, put_refused, put_text, status_of_verdict};
 use edn::Refusal;
 use harness::Config;
-use line_loop::{Failed, Flushes, Watched, read_whole};
+use history::History;
+use line_loop::{Failed, Flushes, Watched};
+use object_kinds::Objects;
 use observers::Observer;
 use std::alloc::Global;
 use std::io;
@@ -17,16 +24,17 @@ use std::io::{Read, Write};
 use std::sync::Wait;
 use std::thread::Threads;
 
-/// Reads a recorded history to its end, judges it, writes and flushes the result, and returns the exit status.
+/// Reads a recorded history to its end, judges it, writes and flushes the result, and returns the exit status. Operations may have the names
+/// that a file of `objects` gives.
 ///
-/// The text is the report, whose last line is the line of the verdict, or it is one line. `refused NUMBER NAME event I` says that I
-/// elements were taken and the next one was refused. `refused NUMBER NAME` is for other refusals: `ReadFailed` if the reader has failed,
-/// else those of [`Config::check`], `Unreadable` with its place, `NoMemory`. The status is the verdict's if there is a report and the
-/// writer has not failed, else 3.
+/// The text is the report, whose last line is the line of the verdict, or a single line. `refused NUMBER NAME event I` means that I
+/// elements were accepted and the next one was refused. All other refusals have the line `refused NUMBER NAME`. It is `ReadFailed` if the
+/// reader has failed. Otherwise it is a refusal of [`Config::check`], `Unreadable` with its place, or `NoMemory`. The status is the
+/// verdict's if there is a report and the writer has not failed, and otherwise 3.
 ///
-/// The bytes are held once, and one element at a time. So many workers, 1 to 64, judge the keys, and what is written is the same by any
-/// number of them. It waits for the reader, the workers and the writer. The observer gets the number of accepted events on the way, and the
-/// moment when they are judged.
+/// As long as the elements are events with plain spellings, some 65,536 bytes are held. From the first other element on, the bytes are held
+/// once, and one element at a time. `workers` workers, 1 to 64, judge the keys, and the text is the same for any number of them. Waits for
+/// the reader, the workers and the writer. The observer gets the number of accepted events, and the moment at which their judgement begins.
 pub fn check_text<
     X: Wait + Threads + Sync,
     R: Read + Failed,
@@ -35,6 +43,7 @@ pub fn check_text<
 >(
     rt: &X,
     alloc: Global,
+    objects: Objects,
     config: Config,
     workers: u32,
     reader: &mut R,
@@ -44,27 +53,29 @@ pub fn check_text<
     requires reads { R.has_failed reader.old ≡ false }
     requires writes { W.has_failed writer.old ≡ false }
     requires workers { (1 ≤ workers) × (workers ≤ 64) }
-    ensures { Checks (setup_of config)
+    ensures { Checks (own_by (names_of objects)) (setup_of config)
         (R.remaining reader.old) (R.remaining reader.new) (R.has_failed reader.new)
         (W.contents writer.old) (W.contents writer.new)
         (W.has_failed writer.new) (W.is_flushed writer.new) result }
 {
-    let findings = match read_whole(rt, alloc, reader) {
-        Ok(bytes) => judge_text(rt, alloc, config, workers, bytes.as_slice(), observer),
-        Err(refusal) => {
-            observer.refused(&refusal);
-            Findings::Refused(refusal)
-        }
-    };
-    tell(rt, alloc, &findings, writer)
+    let read = read_history(
+        rt,
+        alloc,
+        objects.names,
+        opened(alloc, &config),
+        reader,
+        observer,
+    );
+    finish(rt, alloc, &config, workers, read, writer, observer)
 }
 
-/// Judges the recorded history in a file: [`check_text`] of the file's bytes, with the same status, cost and waiting. A file that can't be
-/// opened is reported as `ReadFailed`, with status 3. The observer gets each read, and a failed one with the path.
+/// Judges the recorded history in a file, like [`check_text`] of the file's bytes, with the same status, cost and waiting. A file that
+/// cannot be opened is reported as `ReadFailed`, with status 3. The observer gets each read, and a failed one with the path.
 pub fn check_file<X: Wait + Threads + Opens + Sync, W: Write + Failed + Flushes, L: Observer>(
     rt: &X,
     alloc: Global,
     path: &str,
+    objects: Objects,
     config: Config,
     workers: u32,
     writer: &mut W,
@@ -72,7 +83,7 @@ pub fn check_file<X: Wait + Threads + Opens + Sync, W: Write + Failed + Flushes,
 ) -> u8
     requires writes { W.has_failed writer.old ≡ false }
     requires workers { (1 ≤ workers) × (workers ≤ 64) }
-    ensures { ChecksFile (setup_of config) (X.holds rt.now path.now)
+    ensures { ChecksFile (own_by (names_of objects)) (setup_of config) (X.holds rt.now path.now)
         (W.contents writer.old) (W.contents writer.new)
         (W.has_failed writer.new) (W.is_flushed writer.new) result }
 {
@@ -83,7 +94,15 @@ pub fn check_file<X: Wait + Threads + Opens + Sync, W: Write + Failed + Flushes,
                 path,
                 observer,
             };
-            check_text(rt, alloc, config, workers, &mut reader, writer, observer)
+            let read = read_history(
+                rt,
+                alloc,
+                objects.names,
+                opened(alloc, &config),
+                &mut reader,
+                observer,
+            );
+            finish(rt, alloc, &config, workers, read, writer, observer)
         }
         Err(reason) => {
             observer.unread(path, &reason);
@@ -93,7 +112,7 @@ pub fn check_file<X: Wait + Threads + Opens + Sync, W: Write + Failed + Flushes,
     }
 }
 
-/// A reader with an observer, who gets each failed read with this name of the input.
+/// A reader with an observer, which gets each failed read with the name of the input.
 #[derive(Drop)]
 pub struct SeenFile<'a, R, L> {
     pub file: R,
@@ -126,8 +145,30 @@ impl<'a, R: Read, L: Observer> Read for SeenFile<'a, R, L> {
     }
 }
 
-// Writes the findings, or the line of out of memory if there is none for it, flushes, and gives the exit status: 3 if the writer has
-// failed.
+// Judges a recorded history that was read. Writes and flushes the findings, and returns the exit status.
+fn finish<X: Wait + Threads + Sync, W: Write + Failed + Flushes, L: Observer>(
+    rt: &X,
+    alloc: Global,
+    config: &Config,
+    workers: u32,
+    read: Result<History, Findings>,
+    writer: &mut W,
+    observer: &L,
+) -> u8
+    requires workers { (1 ≤ workers) × (workers ≤ 64) }
+    ensures { (own : OwnNames) (input : List ℕ) (left left' : Option (List ℕ)) (has_failed : Bool)
+        → Consumes left left' input
+        → IsReadHistory own (setup_of config.now) input left' has_failed read
+        → Checks own (setup_of config.now) left left' has_failed
+        (W.contents writer.old) (W.contents writer.new)
+        (W.has_failed writer.new) (W.is_flushed writer.new) result }
+{
+    let findings = judge_read(rt, alloc, config, workers, read, observer);
+    tell(rt, alloc, &findings, writer)
+}
+
+// Writes and flushes the findings, or the line of `NoMemory` if an allocation for them fails. Returns the exit status, which is 3 if the
+// writer has failed.
 fn tell<X: Wait, W: Write + Failed + Flushes>(
     rt: &X,
     alloc: Global,

@@ -7,16 +7,16 @@ use std::{fs, io};
 
 /// Opens files to read them. Its ghost part has the contents of each path.
 ///
-/// A clause over the contents of paths holds for any such system. The code that opens a file knows nothing else of the system, so another
-/// file's content can't meet the clause. Nothing is known of the system's own files.
+/// A clause over the contents of paths holds for any such system. The code that opens a file knows nothing else about the system, so it
+/// cannot meet the clause with the content of another file. Nothing is known about the files of the real system.
 pub trait Opens {
-    /// A file that is read.
+    /// An open file.
     type Opened: Read + Drop;
 
-    // The content of the file of this path, if it is known.
+    // The content of the file at this path, if it is known.
     ghost holds: { Self → List ℕ → Option (List ℕ) } = { λ _ _. None };
 
-    /// Opens the file of this path to read it.
+    /// Opens the file at this path to read it.
     ///
     /// # Errors
     ///

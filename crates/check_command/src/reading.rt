@@ -1,65 +1,71 @@
-//! The events of a recorded history, as they are read.
+//! The reading of a recorded history's events.
 ghost use Rattle.std.specs.Prelude.{◌≡◌, ◌≢◌, ◌<◌, Some, IfOk, IfErr, IfSome, IfNone, OnOk, OnErr};
-ghost use Rattle.edn.specs.Value.{Value, Values};
+ghost use Rattle.edn_values.specs.Value.{Value, Values};
 ghost use Rattle.edn.specs.Text.{IsText};
 ghost use Rattle.edn.specs.Elements.{IsLeftBehind};
 ghost use Rattle.edn.specs.Refusals.{IsWhy};
-ghost use Rattle.edn.specs.View.{value_of};
+ghost use Rattle.edn_values.specs.View.{value_of};
+ghost use Rattle.std.specs.Option.{option_copied};
+ghost use Rattle.events.specs.OwnNames.{OwnNames, own_by};
 ghost use Rattle.check_command.specs.Reading.{IsSpelled, PassesOver, PushesElement, RefusesNext, IsRead};
 
 use edn::{Edn, Elements, Refusal};
-use events::{Event, from_edn};
+use events::{Event, from_edn_with};
 use history::History;
+use object_names::Names;
 use observers::Observer;
 use plain_events::plain_event;
 use std::alloc::Global;
 
-/// Pushes the events that the elements of a text spell, in turn, up to the first refused element. If there is one, it returns the number of
-/// events before it, and the reason.
+/// Pushes the events that the elements of a text spell, in order, up to the first element that is refused. If there is one, returns the
+/// number of events before it, and the reason. Operations may have the `names` of a file of objects, if there is one.
 ///
-/// The text is read once, also behind a refused element, since an unreadable place comes first. One element is held at a time. The observer
-/// gets the number of pushed events.
+/// The text is read once, also after a refused element, since an unreadable place has priority. One element is held at a time. The observer
+/// gets the number of events in the history.
 ///
 /// # Errors
 ///
-/// `Unreadable` if the bytes are not a text, with its place; `NoMemory` if memory is refused.
+/// `Unreadable` with its place if the bytes are not a text; `NoMemory` if an allocation fails.
 pub fn read_events<L: Observer>(
     alloc: Global,
+    names: Option<&Names>,
     history: &mut History,
     bytes: &[u8],
     observer: &L,
 ) -> Result<Option<(usize, Refusal)>, Refusal>
     ensures read { IfOk result
-        (IsRead bytes.now history.old.concurrency history.old.events history.new.events) }
+        (IsRead (own_by (option_copied names.entry)) bytes.now history.old.concurrency
+        history.old.events history.new.events) }
     ensures refused { IfErr result (λ why. IsWhy bytes.now why) }
     ensures concurrency { history.new.concurrency ≡ history.old.concurrency }
 {
     let mut elements = Elements::new(bytes);
     let mut pushed: usize = 0;
     'elements: loop {
-        let spelled = match next_event(alloc, &mut elements)? {
+        let spelled = match next_event(alloc, names, &mut elements)? {
             Some(spelled) => spelled,
             None => return Ok(None),
         };
         match push_spelled(history, spelled) {
             Ok(()) => {
                 pushed += 1;
-                observer.taken(pushed);
+                observer.taken(history.len() as usize);
             }
             Err(refusal) => return refused_at(alloc, elements, pushed, refusal),
         }
     }
 }
 
-// The event that the next element of a text spells, or why it spells none; or none at the end of the text. No element is made
-// of an event that is spelled plainly.
+// Returns the event that the next element of a text spells, or the reason why it spells none. `None` at the end of the text. No element is
+// built for an event with a plain spelling.
 fn next_event(
     alloc: Global,
+    names: Option<&Names>,
     elements: &mut Elements,
 ) -> Result<Option<Result<Event, Refusal>>, Refusal>
     ensures bytes { elements.new.bytes ≡ elements.old.bytes }
-    ensures given { IfOk result (λ found. IfSome found (λ spelled. (v : Value) × IsSpelled v spelled
-        × PassesOver elements.old v elements.new)) }
+    ensures given { IfOk result (λ found. IfSome found (λ spelled. (v : Value)
+        × IsSpelled (own_by (option_copied names.entry)) v spelled × PassesOver elements.old v elements.new)) }
     ensures end { IfOk result (λ found. IfNone found ((given : Values)
         → IsLeftBehind elements.old.bytes given elements.old.left
         → IsText elements.old.bytes given)) }
@@ -70,25 +76,25 @@ fn next_event(
         return Ok(Some(Ok(event)));
     }
     match elements.next(alloc)? {
-        Some(element) => Ok(Some(spelled_by(alloc, element))),
+        Some(element) => Ok(Some(spelled_by(alloc, names, element))),
         None => Ok(None),
     }
 }
 
-// The event that the element spells. By itself, for the prover's sake, since the element is dropped.
-fn spelled_by(alloc: Global, element: Edn) -> Result<Event, Refusal>
-    ensures { IsSpelled (value_of element) result }
+// Returns the event that the element spells. It is a separate function for the prover, since the element is dropped.
+fn spelled_by(alloc: Global, names: Option<&Names>, element: Edn) -> Result<Event, Refusal>
+    ensures { IsSpelled (own_by (option_copied names.entry)) (value_of element) result }
 {
-    from_edn(alloc, &element)
+    from_edn_with(alloc, names, &element)
 }
 
-// Pushes the event that an element spells, or says why it spells none.
+// Pushes the event that an element spells, or returns the reason why it spells none.
 fn push_spelled(history: &mut History, spelled: Result<Event, Refusal>) -> Result<(), Refusal>
-    ensures pushed { OnOk result ((v : Value) → IsSpelled v spelled
-        → PushesElement history.old.concurrency history.old.events v history.new.events) }
+    ensures pushed { OnOk result ((own : OwnNames) (v : Value) → IsSpelled own v spelled
+        → PushesElement own history.old.concurrency history.old.events v history.new.events) }
     ensures refused { IfErr result (λ why. why ≢ Refusal.NoMemory
-        → (v : Value) → IsSpelled v spelled
-        → RefusesNext history.old.concurrency history.old.events v why) }
+        → (own : OwnNames) (v : Value) → IsSpelled own v spelled
+        → RefusesNext own history.old.concurrency history.old.events v why) }
     ensures err { OnErr result (history.new.events ≡ history.old.events) }
     ensures concurrency { history.new.concurrency ≡ history.old.concurrency }
 {
@@ -96,8 +102,8 @@ fn push_spelled(history: &mut History, spelled: Result<Event, Refusal>) -> Resul
     history.push(event)
 }
 
-// The result if an element is refused for this reason after `pushed` events, once the rest of the text was read. Out of memory is never the
-// refusal of an element.
+// Returns the result if an element is refused with `refusal` after `pushed` events. Reads the rest of the text first. A failed allocation
+// is never the refusal of an element.
 fn refused_at(
     alloc: Global,
     elements: Elements,
@@ -119,7 +125,7 @@ fn refused_at(
     }
 }
 
-// Reads a text on to its end. No element of it is kept.
+// Reads the rest of a text to its end. Keeps no element.
 fn read_on(alloc: Global, elements: Elements) -> Result<(), Refusal>
     requires { (given : Values) × IsLeftBehind elements.bytes given elements.left }
     ensures text { OnOk result ((values : Values) × IsText elements.entry.bytes values) }
@@ -132,5 +138,5 @@ fn read_on(alloc: Global, elements: Elements) -> Result<(), Refusal>
     Ok(())
 }
 
-// Drops an element, by itself for the prover's sake.
+// Drops an element, in a separate function for the prover.
 fn discard(_element: Edn) {}

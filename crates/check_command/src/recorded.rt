@@ -1,17 +1,13 @@
-//! Recorded histories: texts whose elements are events.
-ghost use Rattle.std.specs.Prelude.{◌≡◌, ◌≤◌, ◌⊎◌, ℕ, IfOk, IfErr, OnOk, string_bytes};
-ghost use Rattle.edn.specs.Refusals.{IsWhy};
+//! The findings about recorded histories: texts whose elements are events.
+ghost use Rattle.std.specs.Prelude.{◌≡◌, ◌≤◌, ℕ, IfOk, IfErr, OnOk, string_bytes};
 ghost use Rattle.linspec.specs.declared.verdict.Verdict.{Verdict};
 ghost use Rattle.machine.specs.Machine.{Machine};
 ghost use Rattle.linspec.specs.JudgedHistory.{IsVerdictOn, rewound};
 ghost use Rattle.monitor.specs.Loading.{with_all, MayNotLoad};
-ghost use Rattle.harness.specs.Setups.{setup_of, IsSetup, MayNotOpen};
 ghost use Rattle.check_command.specs.declared.recorded.Findings.{Findings};
-ghost use Rattle.check_command.specs.Recorded.{ComesTo, Finds, event_line};
+ghost use Rattle.check_command.specs.Recorded.{Finds, event_line};
 
-use crate::reading::read_events;
 use edn::{OpenGate, Refusal};
-use harness::Config;
 use history::History;
 use kinds::ModelKind;
 use linspec::Verdict;
@@ -25,76 +21,16 @@ use std::thread::Threads;
 /// The findings about a recorded history.
 #[derive(Drop)]
 pub enum Findings {
-    /// Every element was taken: the verdict on all events, and the report.
+    /// Every element was accepted: the verdict on all events, and the report.
     Judged(Verdict, Vec<u8>),
-    /// So many elements were taken, and the next one was refused.
+    /// This number of elements were accepted, and the next one was refused.
     RefusedEvent(usize, Refusal),
-    /// A refusal of another kind than an element's.
+    /// A refusal of the whole history, not of one element.
     Refused(Refusal),
 }
 
-/// Judges a text whose elements are events, in turn, up to the first that is refused. The refusals of [`Config::check`] come before
-/// anything is read.
-///
-/// If the bytes are not a text, that is the finding, even if an element before that place would be refused. The bytes are read once, and
-/// one element of them is held at a time. If all are taken, `workers` workers, 1 to 64, judge the keys, at the cost of [`Monitor::load`];
-/// the calling thread is one of them, and waits for the others. The findings are the same by any number of them. The observer gets the
-/// number of accepted events on the way, and the moment when they are judged. The judged history stays in memory until the process ends.
-pub fn judge_text<X: Threads + Sync, L: Observer>(
-    rt: &X,
-    alloc: Global,
-    config: Config,
-    workers: u32,
-    bytes: &[u8],
-    observer: &L,
-) -> Findings
-    requires workers { (1 ≤ workers) × (workers ≤ 64) }
-    ensures { ComesTo (setup_of config) bytes.now result }
-{
-    match found_in(rt, alloc, config, workers, bytes, observer) {
-        Ok(findings) => findings,
-        Err(refusal) => {
-            observer.refused_text(bytes, &refusal);
-            Findings::Refused(refusal)
-        }
-    }
-}
-
-// The same. A refusal of another kind than an element's is an error.
-fn found_in<X: Threads + Sync, L: Observer>(
-    rt: &X,
-    alloc: Global,
-    config: Config,
-    workers: u32,
-    bytes: &[u8],
-    observer: &L,
-) -> Result<Findings, Refusal>
-    requires workers { (1 ≤ workers) × (workers ≤ 64) }
-    ensures found { IfOk result (ComesTo (setup_of config) bytes.now) }
-    ensures refused { IfErr result (λ why.
-        (IsSetup (setup_of config) × IsWhy bytes.now why) ⊎ MayNotOpen (setup_of config) why) }
-{
-    config.check()?;
-    let mut history = History::new(alloc, config.concurrency)?;
-    match read_events(alloc, &mut history, bytes, observer)? {
-        None => judge_history(
-            rt,
-            alloc,
-            history,
-            config.kind,
-            config.budget,
-            workers,
-            observer,
-        ),
-        Some((taken, refusal)) => {
-            observer.refused(&refusal);
-            Ok(Findings::RefusedEvent(taken, refusal))
-        }
-    }
-}
-
-// The findings about a whole history. It is then known to have a verdict at each of its lengths.
-fn judge_history<X: Threads + Sync, L: Observer>(
+/// Returns the findings about a whole history. Its clauses say that the history has a verdict at each of its lengths.
+pub(crate) fn judge_history<X: Threads + Sync, L: Observer>(
     rt: &X,
     alloc: Global,
     history: History,
@@ -115,13 +51,13 @@ fn judge_history<X: Threads + Sync, L: Observer>(
     let monitor = Monitor::load(rt, alloc, history, kind, budget, workers, &OpenGate)?;
     monitor.some_verdicts();
     let told = told_by(alloc, &monitor, observer);
-    // A check is the last work of its process, and the system takes the memory back as a whole. To give back each piece by itself takes a
-    // sixth of all if there are many keys.
+    // A check is the last work of its process, and the system frees the memory as a whole. If there are many keys, freeing each piece by
+    // itself would take a sixth of the whole time.
     forget(monitor);
     told
 }
 
-// The verdict of a monitor, and the report.
+// Returns the verdict of a monitor, and the report.
 fn told_by<L: Observer>(alloc: Global, monitor: &Monitor, observer: &L) -> Result<Findings, Refusal>
     ensures found { (end : Machine) → end.judged ≡ monitor.now.now → IfOk result (Finds end) }
     ensures memory { IfErr result (λ why. why ≡ Refusal.NoMemory) }
@@ -133,7 +69,7 @@ fn told_by<L: Observer>(alloc: Global, monitor: &Monitor, observer: &L) -> Resul
     Ok(Findings::Judged(verdict, text))
 }
 
-/// The line of an event that is refused after `taken` accepted ones, as `refused 6 BadIndex event 1`. Takes memory for the line.
+/// Returns the line of an event that is refused after `taken` accepted ones, such as `refused 6 BadIndex event 1`. Allocates the line.
 pub fn event_text(alloc: Global, taken: usize, refusal: &Refusal) -> Result<String, AllocError>
     ensures { IfOk result (λ text. string_bytes text ≡ event_line taken refusal.now) }
 {

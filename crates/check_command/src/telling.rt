@@ -1,4 +1,4 @@
-//! The final output: a text or the line of a refusal, written whole, and the exit status.
+//! The final output, which is a text or the line of a refusal, and the exit status.
 ghost use Rattle.std.specs.Prelude.{◌≡◌, ◌≢◌, ◌⊎◌};
 ghost use Rattle.edn.specs.declared.refusal.Refusal.{Refusal as RefusalValue};
 ghost use Rattle.line_loop.specs.RefusalLine.{refusal_line};
@@ -12,16 +12,16 @@ use std::alloc::{AllocError, Global};
 use std::io::Write;
 use std::sync::Wait;
 
-/// The exit status of a refusal, of a usage fault and of a fault in printing.
+/// The exit status of a refusal, of a usage fault and of a failed output.
 pub const REFUSED: u8 = 3;
 
-// The line of out of memory, for which no memory may be left.
+// The line of `NoMemory`, which is used if there is no memory for another line.
 const NO_MEMORY: &[u8] = b"refused 13 NoMemory\n";
 
-// The line of a reader that failed, which the line of out of memory may not replace.
+// The line of `ReadFailed`, which the line of `NoMemory` must not replace.
 const READ_FAILED: &[u8] = b"refused 20 ReadFailed\n";
 
-/// The exit status of a verdict: 0 legal, 1 illegal, 2 unknown.
+/// Returns the exit status of a verdict: 0 legal, 1 illegal, 2 unknown.
 pub fn status_of_verdict(verdict: &Verdict) -> u8
     ensures { result ≡ status_of verdict.now }
 {
@@ -32,8 +32,8 @@ pub fn status_of_verdict(verdict: &Verdict) -> u8
     }
 }
 
-/// Writes the line of a refusal, or the out-of-memory line if there is none for it, and flushes. It gives 3, and waits for the writer. The
-/// line of `ReadFailed` takes no memory.
+/// Writes and flushes the line of a refusal, or the line of `NoMemory` if an allocation for it fails. Returns 3. Waits for the writer. The
+/// line of `ReadFailed` does not need an allocation.
 pub(crate) fn put_refusal<X: Wait, W: Write + Failed + Flushes>(
     rt: &X,
     alloc: Global,
@@ -51,8 +51,8 @@ pub(crate) fn put_refusal<X: Wait, W: Write + Failed + Flushes>(
     }
 }
 
-/// Writes the line of a refusal, or the out-of-memory line if there was none for it, and flushes. It gives 3, waits for the writer, and
-/// takes no memory of its own.
+/// Writes and flushes the line of a refusal, or the line of `NoMemory` if there is no line. Returns 3. Waits for the writer. Does not
+/// allocate.
 pub fn put_refused<X: Wait, W: Write + Failed + Flushes>(
     rt: &X,
     line: Result<String, AllocError>,
@@ -68,8 +68,7 @@ pub fn put_refused<X: Wait, W: Write + Failed + Flushes>(
     }
 }
 
-/// Writes a text whole, flushes, and gives this status; or 3, if the writer has failed. It waits for the writer, and
-/// takes no memory of its own.
+/// Writes the whole text and flushes. Returns `status`, or 3 if the writer has failed. Waits for the writer. Does not allocate.
 pub fn put_text<X: Wait, W: Write + Failed + Flushes>(
     rt: &X,
     text: &[u8],

@@ -1,6 +1,7 @@
 -- The line of a key can be sent to another thread, and threads may share one.
 use denote.Param.Send.{IsSend, IsSync, sendable}
 use Rattle.std.proofs.Crossing.{crosses}
+use Rattle.objects.proofs.Crossing.{object_sync}
 use Rattle.frontier.proofs.Crossing.{any_send, any_sync}
 use Rattle.checkpoints.proofs.invocations.Invocations.TheSendSync as invocations
 use Rattle.checkpoints.proofs.ghost_events.GhostEvents.TheSendSync as told
@@ -37,10 +38,10 @@ saves_sync : IsSync (saves.the_field).row
 saves_sync = search (state_sync, sendable, crosses) depth 60 fits 20000
 
 change_send : IsSend (change.the_field).row
-change_send = search (next_send, saves_send, told.the_send, sendable, crosses) depth 60 fits 20000
+change_send = search (object_sync, next_send, saves_send, told.the_send, sendable, crosses) depth 60 fits 20000
 
 change_sync : IsSync (change.the_field).row
-change_sync = search (next_sync, saves_sync, told.the_sync, sendable, crosses) depth 60 fits 20000
+change_sync = search (object_sync, next_sync, saves_sync, told.the_sync, sendable, crosses) depth 60 fits 20000
 
 prepared_send : IsSend (prepared.the_field).row
 prepared_send = search (next_send, change_send, told.the_send, sendable, crosses) depth 60 fits 20000
@@ -49,7 +50,7 @@ prepared_sync : IsSync (prepared.the_field).row
 prepared_sync = search (next_sync, change_sync, told.the_sync, sendable, crosses) depth 60 fits 20000
 
 pub line_send : IsSend line.the_row
-line_send = search (state_send, prepared_send, told.the_send, sendable, crosses) depth 60 fits 20000
+line_send = search (object_sync, state_send, prepared_send, told.the_send, sendable, crosses) depth 60 fits 20000
 
 pub line_sync : IsSync line.the_row
-line_sync = search (state_sync, prepared_sync, told.the_sync, sendable, crosses) depth 60 fits 20000
+line_sync = search (object_sync, state_sync, prepared_sync, told.the_sync, sendable, crosses) depth 60 fits 20000

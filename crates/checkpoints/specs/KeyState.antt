@@ -1,4 +1,4 @@
--- Invariant: how a key stands
+-- Invariant: the state of a key
 use Rattle.std.specs.Prelude.{ℕ, List}
 use Rattle.kinds.specs.declared.model_kind.ModelKind.{ModelKind}
 use Rattle.events.specs.declared.event.Event.{Event}
@@ -15,12 +15,11 @@ status_of (Alive live) = status.Alive
 status_of (Dead i) = status.Dead i
 status_of (Over i) = status.Over i
 
--- the key is alive after the events
+-- the status of the key after the events is Alive
 abbrev pub IsAlive : ModelKind → ℕ → List (ℕ × Event) → Type 0
 IsAlive kind budget events = IsKeyStatus kind budget (entries_of events) status.Alive
 
--- the key stands so after the events: its status is theirs, and while it is alive it keeps what they
--- leave
+-- the state of the key after the events: its status is theirs, and while it is alive it has the facts of a live key
 abbrev pub IsKeyState : ModelKind → ℕ → List (ℕ × Event) → KeyState → Type 0
 IsKeyState kind budget events (Alive live) =
     IsAlive kind budget events × IsLiveKey kind budget events live

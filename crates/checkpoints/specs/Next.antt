@@ -10,15 +10,14 @@ use Rattle.checkpoints.specs.declared.next.Next.{Next}
 use Rattle.checkpoints.specs.declared.next.Next.TheVariants.{Stays, Goes, Dies, Blows, Becomes}
 use Rattle.checkpoints.specs.KeyState.{status_of, IsAlive, IsKeyState}
 
--- the key will be alive after the events, once it carries out what it has prepared. A key that is dead
--- or over has nothing to carry out
+-- after the prepared change the key is alive after the events. A dead key, or one over its budget, has no change to carry out
 abbrev pub GoesOn : ModelKind → ℕ → List (ℕ × Event) → KeyState → Type 0
 GoesOn kind budget events (Alive live) =
     IsAlive kind budget events × WillBeLive kind budget events live
 GoesOn kind budget events (Dead i) = ⊥
 GoesOn kind budget events (Over i) = ⊥
 
--- if a key with this state changes so, its next state is right for the events
+-- after this change of its state, the key has the right state for the events
 abbrev pub IsNext : ModelKind → ℕ → List (ℕ × Event) → KeyState → Next → Type 0
 IsNext kind budget events state Stays = IsKeyState kind budget events state
 IsNext kind budget events state Goes = GoesOn kind budget events state
@@ -26,7 +25,7 @@ IsNext kind budget events state (Dies i) = IsKeyState kind budget events (Dead i
 IsNext kind budget events state (Blows i) = IsKeyState kind budget events (Over i)
 IsNext kind budget events state (Becomes other) = IsKeyState kind budget events other.value
 
--- the status of the key then. A key that goes on is alive now and then
+-- the status of the key after the change. A key that goes on is alive before and after it
 abbrev pub status_by : KeyState → Next → KeyStatus
 status_by state Stays = status_of state
 status_by state Goes = status_of state

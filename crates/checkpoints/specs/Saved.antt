@@ -1,11 +1,11 @@
--- Invariant: the states that are saved of a key
+-- Invariant: the saved states of a key
 use Rattle.std.specs.Prelude.{ℕ, ◌+◌, ◌*◌, ◌<◌, ◌≤◌, List, length, take, slice_index_or}
 use Rattle.kinds.specs.declared.model_kind.ModelKind.{ModelKind}
 use Rattle.events.specs.declared.event.Event.{Event}
 use Rattle.checkpoints.specs.declared.key_state.KeyState.{KeyState}
 use Rattle.checkpoints.specs.KeyState.{IsKeyState}
 
--- there is one after each 64th event that others follow, perhaps one after the last event too, and the key stood so then
+-- a state is saved after each 64th event that another one follows, and perhaps after the last event. It is the key's state then
 pub record AreSaved (kind : ModelKind) (budget : ℕ) (events : List (ℕ × Event))
     (saved : List KeyState) : Type 0 where
   pub within : 64 * length saved ≤ length events

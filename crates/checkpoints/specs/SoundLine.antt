@@ -14,20 +14,20 @@ use Rattle.checkpoints.specs.Next.{IsNext}
 use Rattle.checkpoints.specs.Saved.{AreSaved}
 use Rattle.checkpoints.specs.Saves.{saved_by}
 
--- the history that a prepared change brings to a key that is judged by this kind and budget
+-- the history after the prepared change, of a key with this kind and budget
 abbrev pub brought : ModelKind → ℕ → Prepared → KeyHistory
 brought kind budget (Push i told next) =
     record { kind = kind; budget = budget; events = told.events }
 brought kind budget (Change c) =
     record { kind = c.value.kind; budget = c.value.budget; events = c.value.told.events }
 
--- the replays of the prepared change
+-- the replays of the prepared change, or 0
 abbrev pub replays_of : Option Prepared → ℕ
 replays_of None = 0
 replays_of (Some (Push i told next)) = 1
 replays_of (Some (Change c)) = c.value.replays
 
--- the events are a history and stand at these places, their key stands so after them, and stood as is saved
+-- the events are a history and have these places in the whole one. The key has the right state after them, and the saved states are right
 pub record IsJudged (kind : ModelKind) (budget : ℕ) (events : List (ℕ × Event)) (places : List ℕ)
     (state : KeyState) (saved : List KeyState) : Type 0 where
   pub history : IsHistory events
@@ -35,7 +35,8 @@ pub record IsJudged (kind : ModelKind) (budget : ℕ) (events : List (ℕ × Eve
   pub stands : IsKeyState kind budget events state
   pub saved_are : AreSaved kind budget events saved
 
--- the events are a history and stand at these places, the next state of the key is right for them, and its state was as is saved
+-- the events are a history and have these places in the whole one. After the change, the key has the right state for them, and the saved
+-- states are right
 pub record IsBrought (kind : ModelKind) (budget : ℕ) (events : List (ℕ × Event)) (places : List ℕ)
     (state : KeyState) (next : Next) (saved : List KeyState) : Type 0 where
   pub history : IsHistory events
@@ -43,7 +44,7 @@ pub record IsBrought (kind : ModelKind) (budget : ℕ) (events : List (ℕ × Ev
   pub stands : IsNext kind budget events state next
   pub saved_are : AreSaved kind budget events saved
 
--- the history that a prepared change brings is right, and carrying it out needs no memory
+-- the history after the prepared change is right, and the change needs no more memory
 abbrev pub IsReady : ModelKind → ℕ → List ℕ → KeyState → List KeyState → ℕ → Prepared → Type 0
 IsReady kind budget places state saved room (Push i told next) =
     IsBrought kind budget told.events (places ++ i ∷ []) state next saved × (length places < room)

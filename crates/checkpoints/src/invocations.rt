@@ -1,4 +1,4 @@
-//! Which operations of a key are open.
+//! The open operations of a key.
 ghost use Rattle.std.specs.Prelude.{◌≡◌, ◌≢◌, ℕ, None, Some, nat_eq, if◌then◌else◌, IfOk, IfSome, OnOk, OnErr};
 ghost use Rattle.checkpoints.specs.Noted.{IsNotedAt, noted_of};
 
@@ -20,7 +20,7 @@ impl Model for Invocations {
 }
 
 impl Invocations {
-    /// None.
+    /// Returns a value without open operations.
     pub(crate) fn new(alloc: Global) -> Invocations
         ensures { (process : ℕ) → noted_of result process ≡ None }
     {
@@ -29,7 +29,7 @@ impl Invocations {
         }
     }
 
-    /// The same invocations, with memory of their own.
+    /// Returns the same invocations, with memory of their own.
     pub(crate) fn copy(&self) -> Result<Invocations, AllocError>
         ensures { IfOk result (λ copy. copy ≡ self.now) }
     {
@@ -37,7 +37,7 @@ impl Invocations {
         Ok(Invocations { noted })
     }
 
-    /// The index that is noted for the process, if one is.
+    /// Returns the index that is stored for the process, if there is one.
     pub(crate) fn get(&self, process: u32) -> Option<u32>
         ensures { result ≡ noted_of self.now process }
     {
@@ -50,7 +50,7 @@ impl Invocations {
         }
     }
 
-    /// Notes the index for the process, and replaces an earlier one. `AllocError` if there is no memory: then all is as it was.
+    /// Stores the index for the process, and replaces an earlier one. `AllocError` if an allocation fails; nothing has changed then.
     #[tactic(auto, using(crate::proofs::Noted::noted_set))]
     pub(crate) fn note(&mut self, process: u32, index: u32) -> Result<(), AllocError>
         ensures noted { OnOk result ((q : ℕ) → noted_of self.new q
@@ -60,7 +60,7 @@ impl Invocations {
         match place_of(&self.noted, process) {
             Some(at) => self.noted[at] = (process, index),
             None => {
-                // With no room for others, since there may be many keys.
+                // It reserves no room for more, since there may be many keys.
                 self.noted.reserve_exact(1)?;
                 self.noted.push((process, index))?;
             }
@@ -68,7 +68,7 @@ impl Invocations {
         Ok(())
     }
 
-    /// Forgets what is noted for the process, and for no other.
+    /// Removes the index that is stored for the process, and no other one.
     pub(crate) fn forget(&mut self, process: u32)
         ensures { (q : ℕ) → q ≢ process → noted_of self.new q ≡ noted_of self.old q }
     {
@@ -78,7 +78,7 @@ impl Invocations {
     }
 }
 
-// The place of the first index that is noted for the process.
+// Returns the place of the first index that is stored for the process.
 fn place_of(noted: &[(u32, u32)], process: u32) -> Option<usize>
     ensures there { IfSome result (IsNotedAt noted.now process) }
     ensures none { result ≡ None → noted_of noted.now process ≡ None }

@@ -20,47 +20,46 @@ use linspec::KeyStatus;
 use std::alloc::{AllocError, Global};
 use std::marker::Model;
 
-/// What may be committed.
+/// The prepared change.
 #[derive(Drop)]
 enum Prepared {
-    /// One event more: its place in the history, all events that the line then has, and what becomes of the key.
+    /// A further event: its place in the history, all events that the line then has, and the next state of the key.
     Push(u32, GhostEvents, Next),
-    /// A change of another sort. It is large and rare, so it is in a box.
+    /// Any other change. It is large and rare, so it is in a box.
     Change(Box<Change>),
 }
 
-/// A change but a push.
+/// A change that is not a push.
 #[derive(Drop)]
 struct Change {
-    /// By these the key is then judged.
+    /// The kind and the budget by which the key is judged after the change.
     kind: ModelKind,
     budget: u32,
-    /// So many events stay, the first ones.
+    /// The number of first events that the line keeps.
     kept: usize,
-    /// All events that the line then has: for proofs alone, no byte of memory.
+    /// All events that the line then has. They exist only in proofs, and take no memory.
     told: GhostEvents,
     /// The next state of the key.
     next: Next,
     /// The change of the saved states.
     saves: Saves,
-    /// So many events were judged again for it.
+    /// The number of events that were judged again for the change.
     replays: u64,
 }
 
-/// The checker of one key: the places of its events, in their recorded order, and the status of the key. The key is alive while every
-/// prefix of the events is linearizable (Herlihy and Wing 1990, section 2). Else it is dead at the last event of the shortest prefix that
-/// is not. If there are more ends than the budget just before an ok, the key is over at that ok, whether it is linearizable or not (this
-/// project's own).
+/// The checker of one key: the places of its events, in their recorded order, and the status of the key. The key is alive as long as every
+/// prefix of the events is linearizable (Herlihy and Wing 1990, section 2). Otherwise it is dead at the last event of the shortest prefix
+/// that is not. If the ends just before an ok outnumber the budget, the key is over at that ok, linearizable or not (this project's own).
 ///
-/// A line gets the events of its key alone, and does not look at keys itself. It does not store events, but the place of each event in the
-/// whole history, in 4 bytes. A caller that makes it judge events again lends it that history.
+/// A line gets only the events of its key, and does not look at keys itself. It does not store events, but 4 bytes for the place of each
+/// event in the whole history. A caller that makes it judge events again passes a reference to that history.
 ///
 /// After each 64th event, before the next one, it saves a copy of the ends and of the status, for cuts. A key that is dead or over has no
-/// ends, and then the status alone is saved. So in addition to the places of its events a line takes the memory of its ends once for each
-/// 64 events. At 2^20 events that is 16,384 times, which is 1 GiB if a copy takes 64 KiB.
+/// ends, so only its status is saved. So in addition to the places of its events, a line takes the memory of its ends once for each 64
+/// events. At 2^20 events that is 16,384 times, which is 1 GiB if a copy takes 64 KiB.
 ///
-/// Each change is prepared and then committed. A prepare may fail, and changes only the prepared change. A change that was prepared before
-/// is dropped. An event is prepared on the ends themselves, so no copy of them is made for it.
+/// Each change is first prepared and then committed. A preparation may fail, and replaces only the prepared change. An event is prepared on
+/// the ends themselves, so they are not copied for it.
 pub struct KeyLine {
     alloc: Global,
     kind: ModelKind,
@@ -74,12 +73,16 @@ pub struct KeyLine {
 }
 
 impl Model for KeyLine {
+    ghost use Rattle.std.specs.Coded.{codes};
+    ghost use Rattle.kinds.specs.contracts.model_kind.ModelKind as model_kind;
     ghost use Rattle.std.specs.Prelude.{vec_capacity};
     ghost use Rattle.std.specs.Option.{option_map};
     ghost use Rattle.checkpoints.specs.KeyLineView.{KeyLineView};
     ghost use Rattle.checkpoints.specs.SoundLine.{IsSoundLine, brought, replays_of};
 
     ghost Value = { KeyLineView };
+
+    ghost coded = { Prim.hlevel (codes, model_kind.the_row.coded) };
 
     ghost view = { λ a. record {
       now = record { kind = a.kind; budget = a.budget; events = a.told.events };
@@ -93,7 +96,7 @@ impl Model for KeyLine {
         (vec_capacity a.places) a.prepared };
 }
 
-// So that crates above give one back by one call.
+// With this implementation, a crate above drops a line by one call.
 impl Drop for KeyLine {
     fn drop(self) {
         let KeyLine {
@@ -111,8 +114,8 @@ impl Drop for KeyLine {
 }
 
 impl KeyLine {
-    /// The line of no events of a key whose object is of this kind. An ok of it may find at most `budget` ends just before it.
-    /// It takes constant time.
+    /// Returns the line without events of a key whose object is of this kind. `budget` is the maximum number of ends just before an ok.
+    /// Takes constant time.
     pub fn new(alloc: Global, kind: ModelKind, budget: u32) -> Result<Self, AllocError>
         ensures { IfOk result (λ made. made ≡ at_rest (without_events kind budget) 0) }
     {
@@ -130,14 +133,14 @@ impl KeyLine {
         })
     }
 
-    /// Prepares to append this event, and gives the status that [`commit`](Self::commit) will bring. The index is the event's place in the
-    /// whole history. It costs what the event does to the ends of the events so far
-    /// ([`AnyFrontier::prepare`](frontier::AnyFrontier::prepare)). It copies no ends, except before the event that follows a 64th one, when
-    /// it saves a copy. It is one replay.
+    /// Prepares to append this event, and returns the status after [`commit`](Self::commit). `index` is the event's place in the whole
+    /// history. It costs the effect of the event on the ends of the events so far
+    /// ([`AnyFrontier::prepare`](frontier::AnyFrontier::prepare)). It does not copy the ends, except before the event that follows a 64th
+    /// one: then it saves a copy. It counts as one replay.
     ///
     /// # Errors
     ///
-    /// `AllocError` if memory was refused: then nothing is prepared, and the rest is as it was.
+    /// `AllocError` if an allocation fails; nothing is prepared then, and the rest is as it was.
     #[inline(always)]
     pub fn prepare_push(&mut self, index: u32, event: &Event) -> Result<KeyStatus, AllocError>
         requires { IsHistory (self.old.now.events ++ (index, event.now) ∷ []) }
@@ -156,13 +159,13 @@ impl KeyLine {
         Ok(status)
     }
 
-    /// Prepares to keep the events whose index is below `n` alone, and gives the status that [`commit`](Self::commit) will bring. `lent` is
-    /// the whole history. It costs a copy of the ends that were saved after the last 64th event that stays, and fewer than 64 replays: of
-    /// the events behind it, each given to that copy. If it takes no event away, it makes none, and copies no end.
+    /// Prepares to keep only the events whose index is below `n`, and returns the status after [`commit`](Self::commit). `borrowed` is the
+    /// whole history. It costs a copy of the ends that were saved after the last kept 64th event. It also costs one replay for each kept
+    /// event after that, which are fewer than 64. If it removes no event, it makes no replay and copies no ends.
     ///
     /// # Errors
     ///
-    /// `AllocError` if memory was refused: then nothing is prepared, and the rest is as it was.
+    /// `AllocError` if an allocation fails; nothing is prepared then, and the rest is as it was.
     pub fn prepare_cut(&mut self, n: u32, borrowed: &[Event]) -> Result<KeyStatus, AllocError>
         requires { AreBorrowedBy borrowed.now self.old.now.events }
         ensures status { IfOk result (IsStatusOf (cut_at n self.old.now)) }
@@ -203,13 +206,14 @@ impl KeyLine {
         Ok(status)
     }
 
-    /// Prepares to judge the same events by another kind of object and another budget, and gives the status that [`commit`](Self::commit)
-    /// will bring. `lent` is the whole history. It costs O(the line's events), each given to a fresh frontier, which is one replay each. A
-    /// copy of the ends is saved after each 64th that others follow. States that were saved before are removed.
+    /// Prepares to judge the same events by another kind of object and another budget, and returns the status after
+    /// [`commit`](Self::commit). `borrowed` is the whole history. It costs O(the line's events): each event is given to a new frontier,
+    /// which is one replay. A copy of the ends is saved after each 64th event that another one follows. States that were saved before are
+    /// removed.
     ///
     /// # Errors
     ///
-    /// `AllocError` if memory was refused: then nothing is prepared, and the rest is as it was.
+    /// `AllocError` if an allocation fails; nothing is prepared then, and the rest is as it was.
     pub fn prepare_rebuild(
         &mut self,
         kind: ModelKind,
@@ -250,7 +254,7 @@ impl KeyLine {
         Ok(status)
     }
 
-    /// Carries out what is prepared. It takes no memory and cannot fail.
+    /// Carries out the prepared change. Does not allocate and cannot fail.
     #[inline(always)]
     pub fn commit(&mut self)
         requires { IsSome self.old.next }
@@ -286,18 +290,18 @@ impl KeyLine {
         }
     }
 
-    /// Drops what is prepared, if anything is.
+    /// Drops the prepared change, if there is one.
     pub fn drop_prepared(&mut self)
         ensures { self.new ≡ at_rest self.old.now self.old.replayed }
     {
         clear(&mut self.prepared);
     }
 
-    /// Appends this event: [`prepare_push`](Self::prepare_push) and [`commit`](Self::commit) in one.
+    /// Appends this event. Does the same as [`prepare_push`](Self::prepare_push) and [`commit`](Self::commit).
     ///
     /// # Errors
     ///
-    /// `AllocError` if memory was refused: then nothing is prepared, and the rest is as it was.
+    /// `AllocError` if an allocation fails; nothing is prepared then, and the rest is as it was.
     pub fn push(&mut self, index: u32, event: &Event) -> Result<(), AllocError>
         requires { IsHistory (self.old.now.events ++ (index, event.now) ∷ []) }
         ensures ok { OnOk result (self.new
@@ -309,12 +313,11 @@ impl KeyLine {
         Ok(())
     }
 
-    /// Keeps the events whose index is below `n` alone: [`prepare_cut`](Self::prepare_cut) and [`commit`](Self::commit) in
-    /// one.
+    /// Keeps only the events whose index is below `n`. Does the same as [`prepare_cut`](Self::prepare_cut) and [`commit`](Self::commit).
     ///
     /// # Errors
     ///
-    /// `AllocError` if memory was refused: then nothing is prepared, and the rest is as it was.
+    /// `AllocError` if an allocation fails; nothing is prepared then, and the rest is as it was.
     pub fn cut(&mut self, n: u32, borrowed: &[Event]) -> Result<(), AllocError>
         requires { AreBorrowedBy borrowed.now self.old.now.events }
         ensures ok { OnOk result (self.new ≡ at_rest (cut_at n self.old.now)
@@ -326,12 +329,12 @@ impl KeyLine {
         Ok(())
     }
 
-    /// Judges the same events by another kind of object and another budget: [`prepare_rebuild`](Self::prepare_rebuild) and
-    /// [`commit`](Self::commit) in one.
+    /// Judges the same events by another kind of object and another budget. Does the same as [`prepare_rebuild`](Self::prepare_rebuild) and
+    /// [`commit`](Self::commit).
     ///
     /// # Errors
     ///
-    /// `AllocError` if memory was refused: then nothing is prepared, and the rest is as it was.
+    /// `AllocError` if an allocation fails; nothing is prepared then, and the rest is as it was.
     pub fn rebuild(
         &mut self,
         kind: ModelKind,
@@ -348,15 +351,15 @@ impl KeyLine {
         Ok(())
     }
 
-    /// The status of the key.
+    /// Returns the status of the key.
     pub fn status(&self) -> KeyStatus
         ensures { IsStatusOf self.now.now result }
     {
         self.state.status()
     }
 
-    /// How many events the committed changes gave to the judge of the key: one for each event that was pushed, and one for each that a cut
-    /// or a rebuild gave again. It stops at the greatest `u64`.
+    /// Returns the number of replays: the events that the committed changes gave to the judge of the key. Each pushed event counts once,
+    /// and so does each event that a cut or a rebuild gave again. The number stops at the greatest `u64`.
     pub fn replayed(&self) -> u64
         ensures { result ≡ self.now.replayed }
     {
@@ -364,7 +367,8 @@ impl KeyLine {
         count
     }
 
-    /// The number of replays of the prepared change, which [`commit`](Self::commit) adds to the earlier ones; 0 if no change is prepared.
+    /// Returns the number of replays of the prepared change, which [`commit`](Self::commit) adds to the earlier ones; 0 if no change is
+    /// prepared.
     pub fn prepared_replays(&self) -> u64
         ensures { result ≡ self.now.prepared_replays }
     {
@@ -375,21 +379,21 @@ impl KeyLine {
         }
     }
 
-    /// How many events the line has.
+    /// Returns the number of the line's events.
     pub fn len(&self) -> usize
         ensures { result ≡ length self.now.now.events }
     {
         self.places.len()
     }
 
-    /// Whether a cut at `n` takes events of the key away: its last event has an index of `n` or more. Takes constant time.
+    /// Returns whether a cut at `n` removes events of the key: its last event has an index of at least `n`. Takes constant time.
     pub fn loses(&self, n: u32) -> bool
         ensures { result ≡ loses_at n self.now.now }
     {
         has_from(&self.places, n)
     }
 
-    /// Whether the key has an event of index below `n`: its first one has. Takes constant time.
+    /// Returns whether the key has an event with an index below `n`: its first event has one. Takes constant time.
     pub fn begins_below(&self, n: u32) -> bool
         ensures { result ≡ begins_below n self.now.now }
     {
@@ -397,21 +401,21 @@ impl KeyLine {
     }
 }
 
-// Drops what was prepared before. A function of its own, so that the drop is proved once.
+// Drops the prepared change. It is a separate function, so that the drop is proved once.
 fn clear(prepared: &mut Option<Prepared>)
     ensures { prepared.new ≡ None }
 {
     *prepared = None;
 }
 
-// Keeps the change until it is carried out, and drops a change that was prepared before. A function of its own, as `clear`.
+// Stores the prepared change, and drops an earlier one. It is a separate function, so that the drop is proved once.
 fn keep(prepared: &mut Option<Prepared>, change: Prepared)
     ensures { prepared.new ≡ Some change }
 {
     *prepared = Some(change);
 }
 
-// How many events have an index below n, by the indices of the events, which rise.
+// Returns how many events have an index below `n`. `places` has the indices of the events, which rise.
 fn count_below(places: &[u32], n: u32) -> usize
     ensures first { (events : List (ℕ × Event)) → IsHistory events → places.now ≡ places_of events
         → take result events ≡ events_below n events }
@@ -420,7 +424,7 @@ fn count_below(places: &[u32], n: u32) -> usize
     places.partition_point(|index| *index < n)
 }
 
-// Whether an event has an index of n or more, by the indices of the events, which rise: the last one has.
+// Returns whether the last event, and so any event, has an index of at least `n`. `places` has the indices of the events, which rise.
 fn has_from(places: &[u32], n: u32) -> bool
     ensures { (events : List (ℕ × Event)) → IsHistory events → places.now ≡ places_of events
         → result ≡ nat_lt (length (events_below n events)) (length events) }
@@ -429,7 +433,7 @@ fn has_from(places: &[u32], n: u32) -> bool
     0 < count && n <= places[count - 1]
 }
 
-// Whether an event has an index below n, by the indices of the events, which rise: the first one has.
+// Returns whether the first event, and so any event, has an index below `n`. `places` has the indices of the events, which rise.
 fn has_below(places: &[u32], n: u32) -> bool
     ensures { (events : List (ℕ × Event)) → IsHistory events → places.now ≡ places_of events
         → result ≡ nat_lt 0 (length (events_below n events)) }

@@ -1,4 +1,4 @@
-//! The state of a key after events: its status, and its frontier while it is alive.
+//! The state of a key: its status, and its frontier while it is alive.
 ghost use Rattle.std.specs.Prelude.{◌≡◌, ℕ, List, [], ◌∷◌, ◌++◌, length, IfOk, OnOk};
 ghost use Rattle.kinds.specs.declared.model_kind.ModelKind.{ModelKind};
 ghost use Rattle.events.specs.declared.event.Event.{Event};
@@ -15,7 +15,7 @@ use kinds::ModelKind;
 use linspec::KeyStatus;
 use std::alloc::{AllocError, Global};
 
-/// The state of a key. Only a key that is alive keeps the ends of its events: dead stays dead, and over stays over.
+/// The state of a key. Only a key that is alive keeps the ends of its events: a dead key stays dead, and a key that is over stays over.
 #[derive(Drop)]
 pub(crate) enum KeyState {
     Alive(LiveKey),
@@ -24,7 +24,7 @@ pub(crate) enum KeyState {
 }
 
 impl KeyState {
-    /// The state of a key without events.
+    /// Returns the state of a key without events.
     pub(crate) fn start(alloc: Global, kind: ModelKind, budget: u32) -> Result<Self, AllocError>
         ensures { IfOk result (λ state. IsKeyState kind budget [] state) }
     {
@@ -32,7 +32,7 @@ impl KeyState {
         Ok(KeyState::Alive(live))
     }
 
-    /// The status of the key.
+    /// Returns the status of the key.
     pub(crate) fn status(&self) -> KeyStatus
         ensures { result ≡ status_of self.now }
     {
@@ -43,8 +43,8 @@ impl KeyState {
         }
     }
 
-    /// Prepares one more event, and returns the next state of the key. The key keeps its state until [`commit`](Self::commit), also on
-    /// `AllocError`. An earlier prepared change is dropped. The ends are not copied.
+    /// Prepares a further event, and returns the next state of the key. The key keeps its state until [`commit`](Self::commit), also on
+    /// `AllocError`. Drops an earlier prepared change. Does not copy the ends.
     #[inline(always)]
     pub(crate) fn prepare(&mut self, index: u32, event: &Event) -> Result<Next, AllocError>
         ensures now { (kind : ModelKind) (budget : ℕ) (events : List (ℕ × Event))
@@ -62,7 +62,7 @@ impl KeyState {
         }
     }
 
-    /// Carries out what becomes of the key. It takes no memory and cannot fail.
+    /// Carries out the change to the next state. Does not allocate and cannot fail.
     #[inline(always)]
     pub(crate) fn commit(&mut self, next: Next)
         ensures { (kind : ModelKind) (budget : ℕ) (events : List (ℕ × Event))
@@ -81,7 +81,7 @@ impl KeyState {
         }
     }
 
-    /// The state of the key after the events at these places too. Each event is counted.
+    /// Returns the state of the key after the further events at these places. Counts each event in `replayed`.
     pub(crate) fn after_all(
         self,
         places: &[u32],
@@ -106,7 +106,7 @@ impl KeyState {
         Ok(state)
     }
 
-    /// A copy of the state.
+    /// Returns a copy of the state.
     pub(crate) fn copy(&self) -> Result<Self, AllocError>
         ensures { (kind : ModelKind) (budget : ℕ) (events : List (ℕ × Event))
             → IsKeyState kind budget events self.now

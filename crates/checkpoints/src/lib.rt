@@ -1,9 +1,9 @@
-//! The line of one key (its checker): the places of its events, and the state of the key after them.
+//! The line of one key, which is its checker: the places of its events, and the state of the key after them.
 //!
-//! A line has the places of its events, which it borrows from the history, and the state of the key. The key is alive, with a frontier, or
-//! it is dead or over its budget, without one. After each 64th event, if another one follows, a copy of the state is saved. A cut goes back
-//! to the last copy that is left, and judges the events behind it again, fewer than 64. Another kind of object or another budget judges all
-//! events again.
+//! A line has the places of its events in the history, and borrows the events from the history. The key is alive, with a frontier, or it is
+//! dead or over its budget, without a frontier. After each 64th event that another one follows, a copy of the state is saved. A cut goes
+//! back to the last saved copy that is left, and judges the kept events after it again, which are fewer than 64. Another kind of object or
+//! another budget judges all events again.
 //!
 //! A call allocates only if its result can be `AllocError`, or a refusal because memory ran out.
 #![tactic(auto)]

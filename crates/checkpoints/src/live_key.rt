@@ -17,8 +17,8 @@ use kinds::ModelKind;
 use linspec::laws::never_kills_law;
 use std::alloc::{AllocError, Global};
 
-/// The ends of the events so far, and for each process with an open operation the index of its invocation. If one more
-/// event is prepared, the frontier has it, and `closes` is the process that it leaves with no open operation, if it does.
+/// The ends of the events so far, and the index of the invocation of each process's open operation. If a further event is prepared, the
+/// frontier has it. `closes` is the process that this event leaves without an open operation, if it does.
 #[derive(Drop)]
 pub(crate) struct LiveKey {
     frontier: AnyFrontier,
@@ -27,7 +27,7 @@ pub(crate) struct LiveKey {
 }
 
 impl LiveKey {
-    /// A key without events.
+    /// Returns a live key without events.
     pub(crate) fn start(alloc: Global, kind: ModelKind, budget: u32) -> Result<Self, AllocError>
         ensures { IfOk result (IsLiveKey kind budget []) }
     {
@@ -39,7 +39,7 @@ impl LiveKey {
         })
     }
 
-    /// A key with the same events. Nothing is prepared of it.
+    /// Returns a key with the same events and nothing prepared.
     pub(crate) fn copy(&self) -> Result<Self, AllocError>
         ensures { (kind : ModelKind) (budget : ℕ) (events : List (ℕ × Event))
             → IsLiveKey kind budget events self.now → IfOk result (IsLiveKey kind budget events) }
@@ -53,8 +53,8 @@ impl LiveKey {
         })
     }
 
-    /// Prepares one more event, and returns the next state of the key. The key keeps its state until [`commit`](Self::commit), also on
-    /// `AllocError`. An earlier prepared change is dropped. The ends are not copied.
+    /// Prepares a further event, and returns the next state of the key. The key keeps its state until [`commit`](Self::commit), also on
+    /// `AllocError`. Drops an earlier prepared change. Does not copy the ends.
     pub(crate) fn prepare(&mut self, index: u32, event: &Event) -> Result<Next, AllocError>
         ensures now { (kind : ModelKind) (budget : ℕ) (events : List (ℕ × Event))
             → IsLiveKey kind budget events self.old → IsAlive kind budget events
@@ -67,14 +67,14 @@ impl LiveKey {
             (KeyState.Alive self.new)) }
     {
         never_kills_law();
-        // An event that speaks of no operation changes nothing.
+        // An event without an operation changes nothing.
         let Process::Client(process) = event.process else {
             return Ok(Next::Stays);
         };
         let Body::Op(op) = &event.body else {
             return Ok(Next::Stays);
         };
-        // By the process rule every completion finds an open operation.
+        // By the process rule every completion has an open operation.
         let Some(id) = operation_id(&mut self.invocations, process, index, event.kind)? else {
             return Ok(Next::Stays);
         };
@@ -86,7 +86,7 @@ impl LiveKey {
         }
     }
 
-    /// Carries out what is prepared: the ends go on, and an operation that is completed is open no more.
+    /// Carries out the prepared event: commits it in the frontier, and closes a completed operation.
     #[inline(always)]
     pub(crate) fn commit(&mut self)
         ensures { (kind : ModelKind) (budget : ℕ) (events : List (ℕ × Event))
@@ -99,9 +99,9 @@ impl LiveKey {
     }
 }
 
-// The id of the operation to which the process's prepared event belongs: the index of its invocation. An invocation's own index is
-// noted at once, since its process has no open operation before it. A completion's is the one that is noted, and stays noted
-// until the completion is carried out.
+// Returns the id of the operation of the process's prepared event, which is the index of its invocation. The index of an invocation is
+// stored at once, since its process has no open operation before it. The index for a completion is stored already, and stays stored until
+// the completion is carried out.
 fn operation_id(
     invocations: &mut Invocations,
     process: u32,
@@ -124,7 +124,7 @@ fn operation_id(
     }
 }
 
-// The process that an event of it leaves with no open operation, if it does.
+// Returns the process if an event of this kind leaves it without an open operation.
 fn closing(process: u32, kind: EventKind) -> Option<u32>
     ensures { result ≡ closed_by process kind }
 {

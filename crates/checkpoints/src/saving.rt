@@ -1,4 +1,4 @@
-//! States of a key that are saved as its events come, to go back to.
+//! Saved states of a key, to which a cut can go back.
 ghost use Rattle.std.specs.Prelude.{◌≡◌, ◌≤◌, ◌*◌, ◌/◌, ◌%◌, ℕ, List, [], ◌∷◌, ◌++◌, take, length, IfOk, OnOk};
 ghost use Rattle.kinds.specs.declared.model_kind.ModelKind.{ModelKind};
 ghost use Rattle.events.specs.declared.event.Event.{Event};
@@ -22,13 +22,13 @@ const EVERY: usize = 64;
 /// The change of the saved states.
 #[derive(Drop)]
 pub(crate) enum Saves {
-    /// Those of the events that stay are kept.
+    /// The saved states of the kept events stay.
     Kept,
-    /// These take their place.
+    /// These states replace the saved ones.
     Anew(Vec<KeyState>),
 }
 
-/// Carries out the change of the saved states when `kept` events are kept.
+/// Carries out the change of the saved states, if the line keeps `kept` events.
 pub(crate) fn keep_or_renew(saved: &mut Vec<KeyState>, kept: usize, saves: Saves)
     ensures { saved.new.items ≡ saved_by kept saves saved.old.items }
 {
@@ -38,8 +38,8 @@ pub(crate) fn keep_or_renew(saved: &mut Vec<KeyState>, kept: usize, saves: Saves
     }
 }
 
-/// Prepares one more event of a key, and returns its next state. If the number of earlier events is a multiple of 64, a copy of the state
-/// after them is saved first, unless there is one. The event is prepared on the key itself.
+/// Prepares a further event of a key, and returns its next state. If the number of earlier events is a multiple of 64, it first saves a
+/// copy of the state after them, unless there is one. The event is prepared on the key itself.
 pub(crate) fn prepare_event(
     state: &mut KeyState,
     saved: &mut Vec<KeyState>,
@@ -68,8 +68,8 @@ pub(crate) fn prepare_event(
     state.prepare(index, event)
 }
 
-// Saves a copy of the state if one is due after these events and is missing. One is due after each 64th event. Then all states are saved
-// that are due before the next event.
+// Saves a copy of the state if one is due after `event_count` events and is missing. A copy is due after each 64th event. Afterwards all
+// states that are due before the next event are saved.
 fn save_if_due(
     saved: &mut Vec<KeyState>,
     state: &KeyState,
@@ -91,7 +91,8 @@ fn save_if_due(
     Ok(())
 }
 
-/// The state of the key after the events at these places, judged from the first on, with its saved copies. Each event is counted.
+/// Returns the state of the key after the events at these places, judged from the first one on, and its saved copies. Counts each event in
+/// `replayed`.
 pub(crate) fn judged_anew(
     alloc: Global,
     kind: ModelKind,
@@ -124,7 +125,7 @@ pub(crate) fn judged_anew(
     Ok((state, saved))
 }
 
-// The state after 64 n events: a saved one, or that without events.
+// Returns the state after 64 * `count` events: a saved one, or the state without events.
 fn state_at(
     alloc: Global,
     kind: ModelKind,
@@ -142,8 +143,8 @@ fn state_at(
     saved[count - 1].copy()
 }
 
-/// The state of the key after the first `kept` of the events at these places. Begins with the last state that was saved up to there, and
-/// judges the events behind it again. Each of these is counted.
+/// Returns the state of the key after the first `kept` of the events at these places. Begins with the last state that was saved before the
+/// end of these events, and judges the events after it again. Counts each of these in `replayed`.
 pub(crate) fn gone_back(
     alloc: Global,
     kind: ModelKind,

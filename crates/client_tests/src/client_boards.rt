@@ -25,7 +25,7 @@ pub fn write() -> Item {
     item(Name::Write, Part::Int(1))
 }
 
-/// An event of a write by process 0, which is handed in.
+/// Returns the command to append an event of a write by process 0, which no client draws.
 pub fn append_write(kind: EventKind) -> Command {
     Command::Append(Event {
         index: None,
@@ -39,7 +39,7 @@ pub fn append_write(kind: EventKind) -> Command {
     })
 }
 
-// So many operations, which are these in turn, under these faults.
+// Returns the configuration for `operations` operations, which cycle through `items`, with these faults.
 fn config(
     alloc: Global,
     operations: u64,
@@ -59,7 +59,7 @@ fn config(
     })
 }
 
-/// A board of two threads and several seats, whose clients draw these operations in turn.
+/// Returns the parts of a board of two threads and `seats` seats, whose clients draw `operations` operations, which cycle through `items`.
 pub fn blank<R: Abort>(
     rt: &R,
     alloc: Global,
@@ -73,7 +73,7 @@ pub fn blank<R: Abort>(
     blank_under(rt, alloc, seats, operations, items, schedule)
 }
 
-/// The same, under these faults.
+/// Returns the parts of a board like [`blank`], whose faults `schedule` gives.
 pub fn blank_under<R: Abort>(
     rt: &R,
     alloc: Global,

@@ -1,19 +1,19 @@
-//! A board, as threads see it that share it.
+//! A board, as the threads that share it see it.
 use board::{Board, News, Seat, Tag};
 use edn::Refusal;
 use harness::{Command, Reply};
 use std::sync::Wait;
 
-/// The answer of a call: its commit and its reply.
+/// The answer of a call: its commit, which is the number of its entry, and its reply.
 pub type CommitAndReply = (u64, Result<Reply, Refusal>);
 
-/// A board that threads share, each by a seat of its own.
+/// A board that threads share. Each thread has a seat of its own.
 pub trait CommandedBoard {
     type Seat;
 
     type News;
 
-    /// The commit and the reply of a command; None if the call adds no entry.
+    /// Returns the commit and the reply of a command, or `None` if the call adds no entry.
     fn call<R: Wait>(
         &self,
         rt: &R,
@@ -21,7 +21,7 @@ pub trait CommandedBoard {
         command: Command,
     ) -> Option<CommitAndReply>;
 
-    /// The commit of a command, and its news.
+    /// Returns the commit of a command, and its news.
     fn tell<R: Wait>(
         &self,
         rt: &R,
@@ -29,7 +29,7 @@ pub trait CommandedBoard {
         command: Command,
     ) -> Option<(u64, Self::News)>;
 
-    /// The result of a glance, once the seat has learned the news.
+    /// Returns the number of calls that a glance shows after the seat has learned the news.
     fn glance_after(&self, seat: &mut Self::Seat, news: Self::News) -> Option<u64>;
 }
 

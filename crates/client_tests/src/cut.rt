@@ -1,4 +1,4 @@
-//! Rewinds and changes of kind under running clients.
+//! Rewinds and changes of a kind while clients run.
 ghost use Rattle.std.specs.Prelude.{◌≡◌};
 
 use crate::client_boards::{blank, read, write};
@@ -20,7 +20,7 @@ use waiting::TURNS;
 
 const CUTS: u32 = 50;
 
-// The commits of a seat, which are to rise.
+// The commits of a seat, which must rise.
 #[derive(Clone, Copy)]
 struct Commits {
     last: u64,
@@ -41,7 +41,7 @@ impl Commits {
     }
 }
 
-// A seat in its thread, its commits, and whether it did what it was to do.
+// A seat after its thread has ended, its commits, and whether it did its work.
 #[derive(Drop)]
 struct Ended<S> {
     seat: S,
@@ -54,7 +54,7 @@ struct Ended<S> {
 enum PlainReply {
     Drawn(u32),
     Over,
-    // There is nothing to draw yet.
+    // There is no operation to draw yet.
     Pending,
     // The operation is not open any more.
     Gone,
@@ -89,7 +89,7 @@ fn ask<M: CommandedBoard, R: Wait>(
     }
 }
 
-// Serves a ticket, and finishes it unless it is gone. Whether the client goes on after that.
+// Serves a ticket, and finishes it unless it is gone. Returns whether the client continues after that.
 fn carry_out<M: CommandedBoard, R: Wait>(
     rt: &R,
     board: &M,
@@ -105,7 +105,7 @@ fn carry_out<M: CommandedBoard, R: Wait>(
     finished == PlainReply::Other || finished == PlainReply::Gone
 }
 
-// Whether the client goes on: None if it has done what it was to do.
+// Draws, and carries out the operation. Returns whether the client continues, or `None` if it has no more operations.
 fn draw<M: CommandedBoard, R: Wait>(
     rt: &R,
     board: &M,
@@ -124,7 +124,7 @@ fn draw<M: CommandedBoard, R: Wait>(
     }
 }
 
-// Does what clients do, and draws again if its operation is open still. Whether it came to the end of its operations.
+// Does what clients do, and draws again if an operation is gone. Returns whether it came to the end of its operations.
 fn draw_all<M: CommandedBoard, R: Wait>(
     rt: &R,
     board: &M,
@@ -157,7 +157,7 @@ fn play<M: CommandedBoard, R: Wait>(
     }
 }
 
-// Cuts all events, and sets the kind again. Whether both were done.
+// Cuts all events, and sets the kind again. Returns whether both were done.
 fn cut_once<M: CommandedBoard, R: Wait>(
     rt: &R,
     board: &M,
@@ -171,7 +171,7 @@ fn cut_once<M: CommandedBoard, R: Wait>(
     cut == PlainReply::Other && set == PlainReply::Other
 }
 
-// The same, again and again.
+// Cuts all events and sets the kind again, many times.
 fn cut<M: CommandedBoard, R: Wait>(rt: &R, board: &M, mut seat: M::Seat) -> Ended<M::Seat> {
     let mut commits = Commits::new();
     let mut is_well = true;
@@ -211,7 +211,7 @@ where
     (first, second, third)
 }
 
-// The verdict of a fresh monitor that is given the events.
+// Returns the verdict of a new monitor that gets the events.
 fn verdict_anew(alloc: Global, core: &Core) -> Result<Verdict, Refusal> {
     let mut anew = Monitor::new(alloc, 2, ModelKind::Register, 4096)?;
     let history = core.monitor().history();
@@ -232,8 +232,8 @@ fn write_and_read(alloc: Global) -> Vec<Item> {
     vec![in alloc; write(), read()].unwrap_or(Vec::new(alloc))
 }
 
-/// While two clients run, a third seat cuts all events again and again. Then the verdict is that of a fresh monitor with the same events,
-/// and the commits of each seat rise.
+/// Tests cuts of all events while two clients run: a third seat makes them again and again. The verdict is then that of a new monitor with
+/// the same events, and the commits of each seat rise.
 #[test]
 fn cut_under_clients(rt: HostRuntime) {
     let alloc = rt.alloc();
@@ -242,7 +242,7 @@ fn cut_under_clients(rt: HostRuntime) {
     assert!(rt; all == [true, true, true, true]);
 }
 
-// Whether all seats came back and did what they were to do, the commits of each rise, and the verdict is that of a fresh monitor.
+// Returns four flags: all seats came back, did their work, and have rising commits, and the verdict is that of a new monitor.
 fn run_and_cut<B: Tag + Send + Sync, R: Threads + Wait + Abort + Sync>(
     rt: &R,
     alloc: Global,

@@ -1,5 +1,5 @@
-//! The answers of clients that run on one board, each in a thread: they overlap, faults strike beside them, and events are cut under them.
-//! Each answer is worked out by hand or compared with that of one thread. It has tests alone.
+//! The answers of clients that run on one board, each in a thread. Their operations overlap, faults strike meanwhile, and another seat cuts
+//! events. Each answer was found by hand, or is compared with that of one thread. The crate has only tests.
 #![tactic(auto)]
 
 #[cfg(test)]

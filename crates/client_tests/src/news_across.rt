@@ -11,7 +11,7 @@ use std::process::Abort;
 use std::sync::Wait;
 use std::thread::{Threads, join};
 
-// Two events in a thread, the second of which makes news.
+// Appends two events in a thread, and returns the news of the second one.
 fn append_there<M: CommandedBoard, R: Wait>(
     rt: &R,
     board: &M,
@@ -22,7 +22,7 @@ fn append_there<M: CommandedBoard, R: Wait>(
     (seat, told)
 }
 
-// The result of a glance after the news, and the commit of a call after that.
+// Learns the news, and returns the number of calls that a glance then shows, and the commit of a call after that.
 fn learn_there<M: CommandedBoard, R: Wait>(
     rt: &R,
     board: &M,
@@ -41,7 +41,7 @@ where
     (seat, shown, commit)
 }
 
-// The first seat in a thread of its own.
+// Lets the first seat append in a thread of its own.
 fn append_in_thread<M: CommandedBoard + Sync, R: Threads + Wait + Sync>(
     rt: &R,
     board: &M,
@@ -55,7 +55,7 @@ where
     told
 }
 
-// The second seat in another.
+// Lets the second seat learn in another thread.
 fn learn_in_thread<M: CommandedBoard + Sync, R: Threads + Wait + Sync>(
     rt: &R,
     board: &M,
@@ -70,7 +70,7 @@ where
     learned
 }
 
-// The news of one thread go to another.
+// Sends the news of one thread to another.
 fn tell_across<M: CommandedBoard + Sync, R: Threads + Wait + Sync>(
     rt: &R,
     board: &M,
@@ -91,7 +91,7 @@ where
     }
 }
 
-/// A seat that learns news in another thread sees by its next glance what the caller had seen, and its next call comes after that.
+/// Tests a seat that learns news in another thread. Its next glance shows what the caller had seen, and its next call comes after that.
 #[test]
 fn news_between_threads(rt: HostRuntime) {
     let alloc = rt.alloc();
@@ -99,7 +99,7 @@ fn news_between_threads(rt: HostRuntime) {
     assert!(rt; told == (true, Some((2, Some(2), Some(3)))));
 }
 
-// Whether the seats came back, and their answers.
+// Returns whether the seats came back, and their answers.
 fn tell<B: Tag + Send + Sync, R: Threads + Wait + Abort + Sync>(
     rt: &R,
     blank: Blank,

@@ -13,15 +13,15 @@ use std::sync::atomic::{AtomicBool, Ordering};
 use std::thread::Threads;
 use waiting::{TURNS, comes};
 
-// Each of two clients waits before its first command until the other is there too; and the first, after the answer to it,
-// until the second has its own.
+// A gate for two clients. Before its first command each client waits until both clients are there. After its answer, the first client waits
+// until the second client has its own.
 #[derive(Drop)]
 struct Meeting {
     first: AtomicBool,
     second: AtomicBool,
     answered: AtomicBool,
     ended: AtomicBool,
-    // Somebody waited for too long.
+    // Whether a client waited for too long.
     missed: AtomicBool,
 }
 
@@ -36,7 +36,7 @@ impl Meeting {
         }
     }
 
-    // Whether both came, none in vain, and the first had its answer once the second had its own.
+    // Returns whether both clients came, neither waited in vain, and the first client continued only after the answer of the second.
     fn was_held(&self) -> bool {
         !self.missed.load(Ordering::SeqCst)
             && self.first.load(Ordering::SeqCst)
@@ -78,9 +78,9 @@ impl Gate for Meeting {
     }
 }
 
-/// Two clients run at once: each waits for the other before its first command, and the first waits for the second's answer
-/// while it holds its own. No clause says so: a run that serves one client after the other meets each clause, and fails here.
-/// Tried by hand: with clients that one thread runs in turn, the first waits in vain.
+/// Tests that two clients run at once. Before its first command each client waits for the other client. After its answer the first client
+/// waits for the second's answer. No clause requires this: a run that serves one client after the other meets each clause, and fails here.
+/// Tried by hand: if one thread runs the clients one after the other, the first waits in vain.
 #[test]
 fn clients_overlap(rt: HostRuntime) {
     let alloc = rt.alloc();
@@ -89,7 +89,7 @@ fn clients_overlap(rt: HostRuntime) {
     assert!(rt; met && events == 4);
 }
 
-// Whether the clients met, and how many events there are.
+// Returns whether the clients met, and the number of events.
 fn overlap<B: Tag + Send + Sync, R: Threads + Wait + Abort + Sync>(
     rt: &R,
     alloc: Global,

@@ -17,15 +17,15 @@ use std::thread;
 use std::thread::Threads;
 use waiting::TURNS;
 
-// The tries after the first one by which all three faults have struck.
+// The number of tries after the first one that are needed for all three faults.
 const TRIES: u64 = 2;
 
-// How often the nemesis was about to report the progress of the run, as it is after each try but the first. The client waits before its
-// first command until all faults must have struck.
+// The number of times that the nemesis was about to report the progress of the run, which it is after each try except the first. The client
+// waits before its first command until all faults must have struck.
 #[derive(Drop)]
 struct Tries {
     count: AtomicU64,
-    // The client waited for too long.
+    // Whether the client waited for too long.
     missed: AtomicBool,
 }
 
@@ -56,7 +56,7 @@ impl Gate for Tries {
     fn end(&self, _place: u32) {}
 }
 
-// Counts, and looks at nothing.
+// A watch that counts the questions whether it wants a report, and never wants one.
 #[derive(Drop)]
 struct Counting<'a> {
     tries: &'a Tries,
@@ -73,14 +73,14 @@ impl Watch for Counting<'_> {
     fn end(self) {}
 }
 
-// Faults that are due before the first event, and change nothing.
+// Returns a schedule of faults that are due before the first event and change nothing.
 fn heals(alloc: Global) -> Result<Schedule, AllocError> {
     Ok(Schedule::new(vec![in alloc; (0, Fault::Heal), (0, Fault::Heal), (0, Fault::Heal)]?))
 }
 
-/// The nemesis strikes each fault that is due, one after the other, while the client waits. No clause says so: a nemesis that
-/// asks no more after its first ask, or after the first fault that struck, meets each clause, and fails here. Tried by hand:
-/// with either the client waits in vain.
+/// Tests that the nemesis strikes each fault that is due, one after another, while the client waits. No clause requires this: a nemesis
+/// that stops asking after its first ask, or after the first fault, meets each clause, and fails here. Tried by hand: in both cases the
+/// client waits in vain.
 #[test]
 fn due_faults_strike(rt: HostRuntime) {
     let alloc = rt.alloc();
@@ -93,7 +93,7 @@ fn due_faults_strike(rt: HostRuntime) {
     assert!(rt; !missed && events == 5 && firsts == 3);
 }
 
-// Whether the client waited for too long; how many events there are, and with how many faults they begin.
+// Returns whether the client waited for too long, the number of events, and the number of faults with which they begin.
 fn strike<B: Tag + Send + Sync, R: Threads + Wait + Abort + Sync>(
     rt: &R,
     alloc: Global,

@@ -1,4 +1,4 @@
--- Promise: where runs of clients and the nemesis lead (this project's own)
+-- Promise: the results of runs of clients and the nemesis (this project's own)
 use Rattle.std.specs.Prelude.{◌≡◌, ◌⊎◌, ℕ, ◌<◌, ◌≤◌, ◌==◌, if◌then◌else◌, List, [], ◌∷◌}
 use mathlib.Core.List.{IsPrefix}
 use Rattle.edn.specs.declared.refusal.Refusal.{Refusal}
@@ -21,18 +21,19 @@ calls_of number (Opening m ∷ rest) = calls_of number rest
 calls_of number (Call seat command reply ∷ rest) =
     if seat == number then (command, reply) ∷ calls_of number rest else calls_of number rest
 
--- on the tape the seat of each of these threads has just the calls of the client of its number, from its first draw to its end
+-- each thread below `threads` has a client and a seat. On the tape, the calls of this seat are the calls of this client, from the client's
+-- first draw to its end
 abbrev pub ArePlayed : ℕ → CoreTape → Type 0
 ArePlayed threads tape =
     (thread : ℕ) → thread < threads → Plays thread draws (calls_of thread tape) has_ended
 
--- the tape has a call, and the first is one of the seat with this number
+-- the tape has a call, and the first call is by the seat with this number
 abbrev pub IsBegunBy : ℕ → CoreTape → Type 0
 IsBegunBy number (Opening m ∷ Call seat command reply ∷ rest) = seat ≡ number
 IsBegunBy number tape = ⊥
 
--- a legal tape that opens on the first machine leads to the last. It has the calls of the clients of `threads` threads, those of the
--- nemesis on the seat after theirs, and no others. The nemesis asks before any client does
+-- a legal tape leads from the machine `first` to the machine `last`. It has the calls of the clients of `threads` threads, those of the
+-- nemesis, on the seat after theirs, and no others. The nemesis asks before any client does
 pub record IsRun (threads : ℕ) (first last : Machine) : Type 0 where
   pub tape : CoreTape
   pub opens : IsPrefix (opening_tape first) tape
@@ -42,19 +43,19 @@ pub record IsRun (threads : ℕ) (first last : Machine) : Type 0 where
   pub begun : IsBegunBy threads tape
   pub leads : LeadsTo tape last
 
--- why a board comes to none: a refusal of the run, or a seat got no place
+-- the refusals of the run on a board: a refusal of the run, or a seat got no place
 abbrev pub MayNotRun : Refusal → Type 0
 MayNotRun why = IsOfRun why ⊎ (why ≡ NoSeat)
 
--- why there is no run with this setup, by the first test that fails. No object is opened so; its clients are too many, since the nemesis
--- takes one of 64 seats; or it does not come to its end
+-- the refusals of a run with this setup, by the first test that fails. The object cannot be opened; there are too many clients (the nemesis
+-- takes one of 64 seats); or the run does not come to its end
 abbrev pub HasNoRun : Setup → Refusal → Type 0
 HasNoRun setup why =
     MayNotOpen setup why
     ⊎ ((IsSetup setup × (64 ≤ setup.concurrency) × (why ≡ NoSeat))
     ⊎ (IsSetup setup × (setup.concurrency < 64) × MayNotRun why))
 
--- the operations that were served on the tape, in turn, are a legal order of the history to which it leads
+-- the operations that were served on the tape are, in the order of the serves, a legal order of the history to which the tape leads
 abbrev pub AreServedInOrder : CoreTape → Machine → Type 0
 AreServedInOrder tape m =
     (order : List Taken) × (s : (product (kind_of m.judged)).State)

@@ -1,4 +1,4 @@
-//! What a client does.
+//! The actions of a client.
 ghost use Rattle.std.specs.Prelude.{ℕ};
 ghost use Rattle.clients.specs.Plays.{draws, serves, finishes, after_reply};
 ghost use Rattle.clients.specs.Playing.{CameFrom, IsAfterRefusal};
@@ -13,15 +13,15 @@ use std::sync::Wait;
 /// The next action of a client.
 #[derive(Drop)]
 pub(crate) enum Next {
-    /// It draws.
+    /// The client draws.
     Draw,
-    /// It ends, if it was refused with the refusal.
+    /// The client ends. The field has the refusal, if it was refused.
     End(Option<Refusal>),
 }
 
-/// The client of a thread: it draws, serves and finishes, one operation after the other, until there is none for it or it is refused, and
-/// then gives the refusal. The gate begins before its first command and ends after the answer to that. For each operation that it draws it
-/// notes the number of events.
+/// Runs the client of a thread. It draws, serves and finishes one operation after another, until there is no operation for it or it is
+/// refused. Returns the refusal, if there is one. The gate begins before the client's first command, and ends after the answer to it. It
+/// stores the index of each invocation in `progress`.
 pub(crate) fn play<M: SharedBoard, G: Gate, R: Wait>(
     rt: &R,
     board: &M,
@@ -42,7 +42,7 @@ pub(crate) fn play<M: SharedBoard, G: Gate, R: Wait>(
     unreachable!()
 }
 
-// Draws, and does what the answer asks for.
+// Draws, and acts on the answer. Returns the next action.
 fn take_turn<M: SharedBoard, G: Gate, R: Wait>(
     rt: &R,
     board: &M,
@@ -62,7 +62,7 @@ fn take_turn<M: SharedBoard, G: Gate, R: Wait>(
     }
 }
 
-// Serves and finishes what was drawn. If it may draw later, it lets others go on.
+// Serves and finishes the drawn operation. If there is no operation now, lets others go on. Returns the next action.
 fn carry_out<M: SharedBoard, R: Wait>(
     rt: &R,
     board: &M,
@@ -111,7 +111,8 @@ fn finish<M: SharedBoard, R: Wait>(rt: &R, board: &M, seat: &mut M::Seat, ticket
     }
 }
 
-// Where others completed or cut its operation, it draws again.
+// Returns the next action after a refused serve or finish. If others completed or cut the operation, the client draws again; otherwise it
+// ends.
 fn after_refusal(why: Refusal) -> Next
     ensures { IsAfterRefusal why result }
 {

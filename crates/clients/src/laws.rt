@@ -1,4 +1,4 @@
-//! Laws of runs.
+//! Laws about runs.
 ghost use Rattle.std.specs.Prelude.{◌≡◌, ◌+◌, ◌≤◌, ℕ, List, [], length};
 ghost use mathlib.Core.List.{IsPrefix};
 ghost use Rattle.events.specs.Events.{marks};
@@ -17,10 +17,10 @@ ghost use Rattle.clients.specs.Runs.{ArePlayed, AreServedInOrder, IsBegunBy, IsR
 
 use machine::no_false_alarm;
 
-/// If all seats of a board went to clients and the nemesis when they were new, and came back, the board's tape has calls of trials alone.
-/// Each call of these seats is on it, once, and nothing else is. So each client has there just its own calls, from its first draw to its
-/// end. The nemesis has its own on the last seat, and the first of them is before all calls of clients. So the tape of a run has calls of
-/// trials alone. [`run_on`](crate::run_on) cites it.
+/// Let all seats of a new board be given to clients and the nemesis, and be returned. Then the board's tape has only calls of trials. Each
+/// call of these seats is on the tape once, and the tape has no other calls. So the calls of each client on it are its own, from its first
+/// draw to its end. The calls of the nemesis are those of the last seat, and the first of them is before all calls of clients.
+/// [`run_on`](crate::run_on) cites this law.
 pub fn trials_alone()
     ensures trials { (m : Machine) (seats back : List CoreSeat) (tape : CoreTape)
         → IsFresh (opening_tape m) seats → HaveRun (λ seat. seat) seats back
@@ -45,9 +45,9 @@ pub fn trials_alone()
         → AreOfTrial (calls_on run.tape) }
 {}
 
-/// If a tape opens on a strict store and its calls are of trials alone, also refused ones, it leads to a history with a legal order. That
-/// order has the operations in the order in which they were served, over all keys together. So no verdict on the history is Illegal. The
-/// law is about the same tapes as `no_false_alarm_on_a_tape` of `board`. No call cites it.
+/// Let a tape open on a strict store and have only calls of trials, including refused ones. Then it leads to a history with a legal order.
+/// This order has the operations as they were served, over all keys together. So no verdict on the history is Illegal. The law is about the
+/// same tapes as `no_false_alarm_on_a_tape` of `board`. No call cites it.
 pub fn serves_are_the_order()
     ensures order { (setup : Setup) (tape : CoreTape) (m : Machine) → setup.mode ≡ Strict
         → IsCount setup.replicas → IsPrefix (opening_tape (opening setup)) tape
@@ -60,8 +60,8 @@ pub fn serves_are_the_order()
     no_false_alarm();
 }
 
-/// No run of a strict store is a false alarm: its history is linearizable, over all keys together. Its operations in the order in which
-/// they were served are a legal order of it. So no verdict on it is Illegal. [`run_trial`](crate::run_trial) cites it.
+/// No run with a strict store raises a false alarm: its history is linearizable, over all keys together. The operations in the order in
+/// which they were served are a legal order of it. So no verdict on it is Illegal. [`run_trial`](crate::run_trial) cites this law.
 pub fn no_false_alarm_in_a_run()
     ensures order { (setup : Setup) (threads : ℕ) (m : Machine) → setup.mode ≡ Strict
         → IsCount setup.replicas → (run : IsRun threads (opening setup) m)

@@ -1,5 +1,4 @@
-//! Client threads: each has a seat of a board, and carries out what it draws against the store, while one more seat has the
-//! nemesis strike.
+//! Client threads. Each has a seat of a board, draws operations, and carries them out on the store. One more seat lets the nemesis strike.
 //!
 //! A call allocates only if its result can be `AllocError`, or a refusal because memory ran out.
 #![tactic(auto)]

@@ -6,10 +6,10 @@ use crate::shared_board::SharedBoard;
 use std::sync::Wait;
 use std::thread;
 
-// The number of turns after which a waiting thread tries again, also if no other thread has done anything.
+// The number of turns after which a waiting thread tries again, even if no other thread has done anything.
 const TURNS: u32 = 1000;
 
-/// Waits until it is seen that a call was made. It takes no lock.
+/// Waits until a glance shows that a call was made. Takes no lock.
 pub(crate) fn wait_for_a_call<M: SharedBoard, R: Wait>(rt: &R, board: &M, seat: &mut M::Seat)
     ensures made { MadeNone (M.view seat.old) (M.view seat.new) }
     ensures seen { 2 ≤ length (M.view seat.new).tape }
@@ -23,7 +23,7 @@ pub(crate) fn wait_for_a_call<M: SharedBoard, R: Wait>(rt: &R, board: &M, seat: 
     unreachable!()
 }
 
-/// Lets others go on until they have made `calls` calls, or for some turns if they don't. It takes no lock.
+/// Lets others go on until they have made `calls` calls, or for 1,000 turns if they do not. Takes no lock.
 pub(crate) fn let_others_call<M: SharedBoard>(board: &M, seat: &mut M::Seat, calls: u64)
     ensures { MadeNone (M.view seat.old) (M.view seat.new) }
 {
@@ -37,7 +37,7 @@ pub(crate) fn let_others_call<M: SharedBoard>(board: &M, seat: &mut M::Seat, cal
     }
 }
 
-// How many calls had been made, by the last publication.
+// Returns the number of calls in the last publication.
 fn calls_made<M: SharedBoard>(board: &M, seat: &mut M::Seat) -> u64
     ensures made { MadeNone (M.view seat.old) (M.view seat.new) }
     ensures seen { 1 ≤ result → result + 1 ≤ length (M.view seat.new).tape }

@@ -1,8 +1,8 @@
-//! The messages between the threads of a run, in addition to the board.
+//! Messages between the threads of a run, in addition to the board.
 
 use std::sync::atomic::{AtomicBool, AtomicU64, Ordering};
 
-/// Whether all clients have ended, and the number of events when an operation was drawn last.
+/// Whether all clients have ended, and the number of events when the last operation was drawn.
 #[derive(Drop)]
 pub(crate) struct Progress {
     ended: AtomicBool,
@@ -10,7 +10,7 @@ pub(crate) struct Progress {
 }
 
 impl Progress {
-    /// No client has ended, and there is no event yet.
+    /// Returns the progress at the start: the clients have not ended, and there is no event.
     pub(crate) fn new() -> Progress {
         Progress {
             ended: AtomicBool::new(false),
@@ -18,22 +18,22 @@ impl Progress {
         }
     }
 
-    /// All clients have ended.
+    /// Notes that all clients have ended.
     pub(crate) fn end(&self) {
         self.ended.store(true, Ordering::SeqCst);
     }
 
-    /// Whether all clients have ended.
+    /// Returns whether all clients have ended.
     pub(crate) fn has_ended(&self) -> bool {
         self.ended.load(Ordering::SeqCst)
     }
 
-    /// An operation was drawn, whose invocation has this index.
+    /// Notes that an operation was drawn, whose invocation has this index.
     pub(crate) fn note(&self, index: u32) {
         self.events.store(u64::from(index) + 1, Ordering::SeqCst);
     }
 
-    /// How many events there were when an operation was drawn last.
+    /// Returns the number of events when the last operation was drawn.
     pub(crate) fn events(&self) -> u64 {
         self.events.load(Ordering::SeqCst)
     }

@@ -1,4 +1,4 @@
-//! Clients and the nemesis, each in a thread of its own.
+//! Runs of clients and the nemesis, each in a thread of its own.
 ghost use Rattle.std.specs.Prelude.{◌≡◌, ◌<◌, ◌≤◌, ◌^◌, ◌++◌, ◌∷◌, [], None, length, map, IfOk, IfErr, IfSome};
 ghost use Rattle.std.specs.List.{All, enumerate_from};
 ghost use Rattle.clients.specs.Plays.{HasPlayed, HaveRun, IsOfRun};
@@ -17,30 +17,31 @@ use std::sync::Wait;
 use std::thread;
 use std::thread::{Threads, join};
 
-// A seat whose thread has ended, and the refusal that it met, if that is one of the run.
+// A seat whose thread has ended, and its refusal, if the refusal ends the run.
 #[derive(Drop)]
 struct Ended<S> {
     seat: S,
     why: Option<Refusal>,
 }
 
-/// Runs clients, each in its own thread: the seat at place `i` belongs to the client in thread `i`, and the last seat to
-/// the nemesis. So there are 1 to 64 seats, one more than there are threads.
+/// Runs clients, each in its own thread. The seat at index `i` belongs to the client in thread `i`, and the last seat to the nemesis. So
+/// there are 1 to 64 seats, one more than threads.
 ///
-/// A client draws, serves and finishes, one operation after the other, until there is none for it. If others completed or cut its
-/// operation, it draws again. If an operation may come later, the client waits for some calls of others and draws again. The nemesis asks
-/// for its first fault before any client begins, and each client begins once it has seen a call. Then the nemesis strikes until all clients
-/// have ended. If no fault is due, it waits for some calls of others. The gate begins before a client's first command, with the client's
-/// place, and ends after the answer to it; it is called outside the lock. If the watch wants the progress of the run, it gets it by glances
-/// from the nemesis's seat, which take no lock.
+/// A client draws, serves and finishes one operation after another, until there is none for it. If others completed or cut its operation,
+/// it draws again. If an operation may come later, the client waits for a call of others and draws again. The nemesis asks for its first
+/// fault before any client begins, and each client begins once it has seen a call. Then the nemesis strikes until all clients have ended.
+/// If no fault is due, it waits for some calls of others. The gate begins before a client's first command, with the client's index, and
+/// ends after the answer; it is called outside the lock. If the watch wants the progress of the run, the nemesis's seat reports it by
+/// glances, which take no lock.
 ///
-/// A client whose thread cannot be started runs in the thread that was to start it. So does the nemesis, after the clients have ended, and
-/// then it asks no more. The call waits until all of them have ended. It takes memory for the seats and the threads, and else costs what
-/// their calls on the board cost.
+/// If a thread cannot be started for a client, the client runs in the thread that tried to start it. If the nemesis has no thread, it runs
+/// after the clients have ended, and then asks for no more faults. The call waits until all of them have ended. It takes memory for the
+/// seats and the threads, and otherwise costs what their calls on the board cost.
 ///
-/// # Errors [`Refusal::HistoryFull`], [`Refusal::TapeFull`] or [`Refusal::NoMemory`] if a seat met it; if several seats did, the one of the
-/// lowest place. If the nemesis's first ask met it, no client begins. `NoMemory` also if an allocation fails. The seats are then dropped.
-/// Any other refusal ends only the seat that met it.
+/// # Errors
+/// [`Refusal::HistoryFull`], [`Refusal::TapeFull`] or [`Refusal::NoMemory`] if a seat met it; if several seats did, that of the lowest
+/// index. If the nemesis's first ask met it, no client begins. Also `NoMemory` if an allocation fails. The seats are dropped then. Any
+/// other refusal ends only the seat that met it.
 pub fn run_clients<
     B: Tag + Send + Sync,
     G: Gate + Sync,
@@ -61,7 +62,7 @@ pub fn run_clients<
     run_all(rt, alloc, board, seats, gate, watch)
 }
 
-// Clients on all seats but the last, which is the nemesis's.
+// Runs clients on all seats except the last, which is the nemesis's.
 fn run_all<M: SharedBoard + Sync, G: Gate + Sync, W: Watch + Send + Drop, R: Threads + Wait + Sync>(
     rt: &R,
     alloc: Global,
@@ -96,7 +97,7 @@ where
     come_back(alloc, played?, struck)
 }
 
-// All seats if none met a refusal of the run, else the refusal of the first seat that did.
+// Returns all seats if none met a refusal that ends the run, and otherwise the refusal of the first seat that did.
 fn come_back<S: Drop>(
     alloc: Global,
     played: Vec<Ended<S>>,
@@ -123,14 +124,14 @@ fn come_back<S: Drop>(
     Ok(back)
 }
 
-// The seats, each with its place.
+// Returns the seats, each with its index.
 fn numbered<S: Drop>(alloc: Global, seats: Vec<S>) -> Result<Vec<(usize, S)>, AllocError>
     ensures { IfOk result (λ all. all.items ≡ enumerate_from 0 seats.items) }
 {
     seats.into_iter().enumerate().collect(alloc)
 }
 
-// The nemesis's seat, once it has asked for the first fault.
+// Lets the nemesis ask for the first fault, and returns its seat.
 fn first_asked<M: SharedBoard, R: Wait>(
     rt: &R,
     board: &M,
@@ -149,7 +150,7 @@ where
     }
 }
 
-// The nemesis, with its seat and a watch.
+// Runs the nemesis, with its seat and a watch.
 fn strike_with<M: SharedBoard, W: Watch, R: Wait>(
     rt: &R,
     board: &M,
@@ -170,7 +171,7 @@ fn strike_with<M: SharedBoard, W: Watch, R: Wait>(
     }
 }
 
-// A client, by its thread and its seat. It begins once it has seen a call.
+// Runs a client, given by its thread and its seat. It begins once it has seen a call.
 fn play_with<M: SharedBoard, G: Gate, R: Wait>(
     rt: &R,
     board: &M,
@@ -191,7 +192,7 @@ fn play_with<M: SharedBoard, G: Gate, R: Wait>(
     }
 }
 
-// The refusal, if it ends the run: a full history, a full tape, or out of memory.
+// Returns the refusal, if it ends the run: a full history, a full tape, or a failed allocation.
 fn of_run(why: Option<Refusal>) -> Option<Refusal>
     ensures refused { IfSome result IsOfRun }
     ensures none { result ≡ None → ¬ RefusesRun why }
@@ -203,7 +204,7 @@ fn of_run(why: Option<Refusal>) -> Option<Refusal>
     }
 }
 
-// The clients, each in a thread of its own if one can be made. Then they have all ended.
+// Runs the clients, each in a thread of its own if one can be started, and waits until they have ended.
 fn play_all<M: SharedBoard + Sync, G: Gate + Sync, R: Threads + Wait + Sync>(
     rt: &R,
     board: &M,
@@ -229,7 +230,7 @@ where
     played
 }
 
-// The refusal of the first that met one of the run.
+// Returns the first refusal that ends the run, if there is one.
 fn first_refusal<S>(played: &[Ended<S>]) -> Option<Refusal>
     requires { All (λ ended. IfSome ended.why IsOfRun) played.now }
     ensures refused { IfSome result IsOfRun }
@@ -244,7 +245,7 @@ fn first_refusal<S>(played: &[Ended<S>]) -> Option<Refusal>
     None
 }
 
-// The seats alone.
+// Returns the seats without their refusals.
 fn seats_of<S: Drop>(alloc: Global, played: Vec<Ended<S>>) -> Result<Vec<S>, AllocError>
     ensures { IfOk result (λ seats. seats.items ≡ map (λ ended. ended.seat) played.items) }
 {

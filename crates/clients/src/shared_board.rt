@@ -1,4 +1,4 @@
-//! A board, as threads see it that share it.
+//! A board, as the threads that share it see it.
 ghost use Rattle.std.specs.Prelude.{◌≡◌, ◌+◌, length, IfSome};
 ghost use Rattle.clients.specs.Calls.{CoreSeat, MadeNone, IsTold};
 
@@ -7,13 +7,13 @@ use edn::Refusal;
 use harness::{Command, Reply};
 use std::sync::Wait;
 
-/// A board that threads share, each by a seat of its own.
+/// A board that threads share. Each thread has a seat of its own.
 pub trait SharedBoard {
     type Seat;
 
     ghost view: { Self.Seat → CoreSeat };
 
-    /// Carries out a command. It is refused if the command is, or if the call adds no entry.
+    /// Carries out a command. Returns its refusal if it is refused, or that of the call if the call adds no entry.
     fn call<R: Wait>(
         &self,
         rt: &R,
@@ -22,7 +22,7 @@ pub trait SharedBoard {
     ) -> Result<Reply, Refusal>
         ensures { IsTold (view seat.old) command result (view seat.new) };
 
-    /// The last publication, if it can be seen. It takes no lock and does not block.
+    /// Returns the last publication, if it can be read. Takes no lock and does not block.
     fn glance(&self, seat: &mut Self::Seat) -> Option<Glance>
         ensures made { MadeNone (view seat.old) (view seat.new) }
         ensures call_count { IfSome result (λ g. length (view seat.new).tape ≡ g.call_count + 1) };
@@ -40,7 +40,7 @@ impl<B: Tag> SharedBoard for Board<B> {
         command: Command,
     ) -> Result<Reply, Refusal> {
         match Board::call(self, rt, seat, command) {
-            Ok(answered) => answered.reply,
+            Ok(answered) => answered.into_reply(),
             Err(why) => Err(why),
         }
     }

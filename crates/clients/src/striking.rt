@@ -1,4 +1,4 @@
-//! What the nemesis does.
+//! The actions of the nemesis.
 ghost use Rattle.clients.specs.Calls.{MadeNone};
 ghost use Rattle.clients.specs.Playing.{AsksOnce, GoesOnStriking, RefusesRun};
 
@@ -10,11 +10,11 @@ use edn::Refusal;
 use harness::Command;
 use std::sync::Wait;
 
-// The calls of others between two tries, if no fault was due. So it takes few of the turns at the lock, and a fault strikes
-// some events late at most.
+// The number of calls of others between two tries, if no fault was due. So the nemesis rarely takes the lock, and a fault strikes at most a
+// few events late.
 const CALLS: u64 = 8;
 
-/// Asks for the first fault, before any client has begun, and gives the refusal, if it is refused.
+/// Asks for the first fault, before any client has begun. Returns the refusal, if there is one.
 pub(crate) fn ask_first<M: SharedBoard, R: Wait>(
     rt: &R,
     board: &M,
@@ -25,8 +25,8 @@ pub(crate) fn ask_first<M: SharedBoard, R: Wait>(
     board.call(rt, seat, Command::Nemesis).err()
 }
 
-/// Has the nemesis strike until the clients have ended, or until it is refused, and then gives the refusal. If no fault is due, others go
-/// on before the next try. Between two tries it reports to the watch, if that wants to know.
+/// Lets the nemesis strike until the clients have ended or it is refused. Returns the refusal, if there is one. If no fault is due, others
+/// go on before the next try. Between two tries it reports to the watch, if the watch wants a report.
 pub(crate) fn strike<M: SharedBoard, W: Watch, R: Wait>(
     rt: &R,
     board: &M,
@@ -48,7 +48,7 @@ pub(crate) fn strike<M: SharedBoard, W: Watch, R: Wait>(
     unreachable!()
 }
 
-// One try, and the refusal that ends the nemesis, if that is one.
+// Tries once. Returns the refusal, if it ends the nemesis.
 fn try_once<M: SharedBoard, R: Wait>(rt: &R, board: &M, seat: &mut M::Seat) -> Option<Refusal>
     ensures { ¬ RefusesRun result → GoesOnStriking (M.view seat.old) (M.view seat.new) }
 {
@@ -63,7 +63,7 @@ fn try_once<M: SharedBoard, R: Wait>(rt: &R, board: &M, seat: &mut M::Seat) -> O
     }
 }
 
-// Tells the watch how far the run has come, if it wants to know and a glance shows it.
+// Reports the progress of the run to the watch, if the watch wants a report and a glance shows the progress.
 fn tell<M: SharedBoard, W: Watch>(board: &M, progress: &Progress, watch: &mut W, seat: &mut M::Seat)
     ensures { MadeNone (M.view seat.old) (M.view seat.new) }
 {

@@ -1,4 +1,4 @@
-//! Whole runs: a board is opened, clients run on its seats, and it is ended.
+//! Whole runs: they open a board, run clients on its seats, and end the board.
 ghost use Rattle.std.specs.Prelude.{◌≡◌, ◌≤◌, ◌-◌, ℕ, IfOk, IfErr, OnOk};
 ghost use Rattle.events.specs.Events.{marks};
 ghost use Rattle.linspec.specs.Orders.{IsLinearizable, product};
@@ -20,18 +20,17 @@ use std::marker::Brand;
 use std::sync::Wait;
 use std::thread::Threads;
 
-/// Opens a board as configured, with a seat for the client of each thread and one for the nemesis, and runs them to their end. It returns
-/// the object to which the board's one tape leads. The watch gets the progress of the run meanwhile. It waits and costs as [`run_clients`]
-/// does.
+/// Opens a board with this configuration, and runs clients and the nemesis to their end. There is a seat for the client of each thread, and
+/// one for the nemesis. Returns the object to which the board's one tape leads. The watch gets the progress of the run. Waits and costs as
+/// [`run_clients`] does.
 ///
-/// If the store is strict, its history is linearizable (Herlihy and Wing 1990) over all keys together, after any actions of clients and
-/// faults, in any interleaving. So an illegal verdict would be a false alarm. The operations in the order in which they were served are a
-/// legal order of it.
+/// If the store is strict, the history is linearizable (Herlihy and Wing 1990) over all keys together. This holds after any actions of
+/// clients and faults, in any interleaving. So an illegal verdict would be a false alarm. The operations in the order in which they were
+/// served are a legal order of it.
 ///
 /// # Errors
-/// Those of [`Blank::new`] for as many seats, and so [`Refusal::NoSeat`] if the concurrency is 64; else those of [`run_clients`], or
-/// [`Refusal::NoSeat`] if the published copy gave a seat no place. They come in this order: a run that is not opened has none of the
-/// refusals of [`run_clients`].
+/// Those of [`Blank::new`], with [`Refusal::NoSeat`] if the concurrency is 64. Otherwise those of [`run_clients`], or [`Refusal::NoSeat`]
+/// if a seat gets no place to read the published copy from. A run that is not opened has none of the refusals of [`run_clients`].
 pub fn run_trial<W: Watch + Send + Drop, R: Threads + Wait + Sync>(
     rt: &R,
     alloc: Global,
@@ -57,11 +56,11 @@ pub fn run_trial<W: Watch + Send + Drop, R: Threads + Wait + Sync>(
     run_on::<Brand, OpenGate, W, R>(rt, alloc, blank, &OpenGate, watch)
 }
 
-/// Opens a board by its tag, runs clients and the nemesis on its seats, with a gate and a watch, and gives the object to
-/// which its one tape leads. It waits and costs as [`run_clients`] does.
+/// Opens a board by its tag, and runs clients and the nemesis on its seats, with a gate and a watch. Returns the object to which the
+/// board's one tape leads. Waits and costs as [`run_clients`] does.
 ///
 /// # Errors
-/// Those of [`run_clients`], or [`Refusal::NoSeat`] if the published copy gave a seat no place.
+/// Those of [`run_clients`], or [`Refusal::NoSeat`] if a seat gets no place to read the published copy from.
 pub fn run_on<
     B: Tag + Send + Sync,
     G: Gate + Sync,

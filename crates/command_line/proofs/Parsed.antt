@@ -5,6 +5,7 @@ use Rattle.clap.specs.declared.error.Error.{Error}
 use Rattle.clap.specs.declared.error.kind.ErrorKind.TheVariants.{OutOfMemory}
 use Rattle.clap.specs.declared.parser.matches.ArgMatches.{ArgMatches}
 use Rattle.command_line.specs.Commands.{program_app}
+use Rattle.command_line.specs.Declaring.{Files}
 use Rattle.command_line.specs.Stops.{IsRequest, IsUsageFault}
 use Rattle.command_line.specs.Words.{IsOrderIn, NamesOrder}
 use Rattle.command_line.specs.declared.order.Order.{Order}
@@ -30,15 +31,15 @@ kinds_of Q app words e h =
     subst (λ (a : App). Q (fault_of a words)) e (h (ap is_simple_and_free e ∙ program_is_free))
 
 -- the order that the words name
-pub order_named : (words : List Text) (m : ArgMatches) (result : Result Order Stop)
+pub order_named : (files : Files) (words : List Text) (m : ArgMatches) (result : Result Order Stop)
     → fault_of program_app words ≡ [] → subcommand_rows_of m ≡ subcommand_of program_app words
-    → NamesOrder (subcommand_rows_of m) result → IsOrderIn words result
-order_named words m result f e h = inl (f, subst (λ o. NamesOrder o result) e h)
+    → NamesOrder files (subcommand_rows_of m) result → IsOrderIn files words result
+order_named files words m result f e h = inl (f, subst (λ o. NamesOrder files o result) e h)
 
 -- the alternative to an order, for an error of the words
-pub order_stopped : (words : List Text) (error : Error) (stop : Stop) → HasKind (fault_of program_app words) error
+pub order_stopped : (files : Files) (words : List Text) (error : Error) (stop : Stop) → HasKind (fault_of program_app words) error
     → (IsRequest (kind_of error) → stop ≡ Words error) → ((¬ IsRequest (kind_of error)) → IsUsageFault stop)
-    → (kind_of error ≡ OutOfMemory → stop ≡ Refused NoMemory) → IsOrderIn words (Err stop)
-order_stopped words error stop (inl h) asked fault memory = inr (inr (ap Err (memory h)))
-order_stopped words error stop (inr h) asked fault memory =
+    → (kind_of error ≡ OutOfMemory → stop ≡ Refused NoMemory) → IsOrderIn files words (Err stop)
+order_stopped files words error stop (inl h) asked fault memory = inr (inr (ap Err (memory h)))
+order_stopped files words error stop (inr h) asked fault memory =
     inr (inl (kind_of error, h, (stop, refl, ((λ r. (error, asked r, refl)), fault))))

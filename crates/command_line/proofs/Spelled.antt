@@ -1,13 +1,14 @@
 -- the settings that the shown defaults spell
-use Rattle.std.proofs.Common.{◌≡◌, Some, Ok, codes, refl}
+use Rattle.std.proofs.Common.{◌≡◌, Some, Ok, [], codes, refl}
+use Rattle.object_kinds.specs.Naming.{kind_named}
 use Rattle.run_plans.specs.declared.options.JudgingTexts.{JudgingTexts}
 use Rattle.run_plans.specs.declared.options.RunTexts.{RunTexts}
-use Rattle.run_plans.specs.Options.{count_spelled, default_run, default_setup, judging_spelled, kind_spelled, run_spelled}
+use Rattle.run_plans.specs.Options.{count_spelled, default_run, default_setup, judging_spelled, run_spelled}
 use Rattle.command_line.specs.Commands.{confirm_app, run_app}
 use Rattle.command_line.specs.Defaults.{ShowsObject, ShowsRun}
 
 pub judging : (texts : JudgingTexts) → Some (codes "2") ≡ Some texts.concurrency.now → Some (codes "register") ≡ Some texts.model.now
-    → Some (codes "4096") ≡ Some texts.budget.now → judging_spelled texts ≡ Ok default_setup
+    → Some (codes "4096") ≡ Some texts.budget.now → judging_spelled [] texts ≡ Ok default_setup
 judging texts c m b =
     let concurrency : codes "2" ≡ texts.concurrency.now = cc in
     let model : codes "register" ≡ texts.model.now = cc in
@@ -15,7 +16,7 @@ judging texts c m b =
     rw (← concurrency, ← model, ← budget) refl
 
 pub object : (texts : JudgingTexts) → ShowsObject confirm_app texts
-    → (count_spelled texts.concurrency.now ≡ Some default_setup.concurrency) × (kind_spelled texts.model.now ≡ Some default_setup.kind)
+    → (count_spelled texts.concurrency.now ≡ Some default_setup.concurrency) × (kind_named [] texts.model.now ≡ Some default_setup.kind)
 object texts shows =
     let c : Some (codes "2") ≡ Some texts.concurrency.now = shows.0 in
     let m : Some (codes "register") ≡ Some texts.model.now = shows.1 in

@@ -32,9 +32,9 @@ commands = (
       λ rows old. values_right strict IsTold strict AsWritten CommandLine (codes "true" ∷ []) (without strict rows) (λ same. inl refl) (without_right strict IsTold strict rows old),
       λ rows old. values_right strict IsTold strict AsWritten DefaultValue (codes "false" ∷ []) rows (λ same. inr refl) old,
     ),
-    (inl refl, (inl refl, (inl refl, (inl refl, tt)))),
+    (inl refl, (inl refl, (inl refl, (inl refl, (inl refl, tt))))),
   ),
-  ((inl refl, (inl refl, (inl refl, (inl refl, (inl refl, (inl refl, tt)))))), ((inl refl, (inl refl, (inl refl, (inl refl, (inl refl, tt))))), ((inl refl, (inl refl, (inl refl, (inl refl, (inl refl, (inl refl, (inl refl, (inl refl, (inl refl, (inl refl, tt)))))))))), ((inl refl, tt), tt)))),
+  ((inl refl, (inl refl, (inl refl, (inl refl, (inl refl, (inl refl, (inl refl, tt))))))), ((inl refl, (inl refl, (inl refl, (inl refl, (inl refl, (inl refl, tt)))))), ((inl refl, (inl refl, (inl refl, (inl refl, (inl refl, (inl refl, (inl refl, (inl refl, (inl refl, (inl refl, tt)))))))))), ((inl refl, tt), tt)))),
 )
 
 one_known : (p : Shape → Bool) (subs : List Shape) → AreCommands subs → IfSome (find p subs) (λ s. AreKnown strict IsTold s.rules)

@@ -3,12 +3,16 @@ use Rattle.std.specs.Prelude.{true, [], ◌∷◌, Some, codes}
 use Rattle.clap.specs.Words.{App, Rule, Text, new_app, new_rule, with_rule, with_subcommand}
 use Rattle.clap.specs.declared.builder.action.ArgAction.TheVariants.{SetTrue}
 
--- an option that takes a value, which has this default in the help
+-- an option that takes a value, with this default in the help
 abbrev pub option_rule : Text → Text → Rule
 option_rule name default =
     record (new_rule name) { long = Some name; value_names = 1; defaults = default ∷ [] }
 
--- a file that has to be given
+-- an option that takes the path of a file
+abbrev pub path_rule : Text → Rule
+path_rule name = record (new_rule name) { long = Some name; value_names = 1 }
+
+-- a required file
 abbrev pub file_rule : Text → Rule
 file_rule name = record (new_rule name) { required = true }
 
@@ -16,24 +20,27 @@ file_rule name = record (new_rule name) { required = true }
 abbrev pub flag_rule : Text → Rule
 flag_rule name = record (new_rule name) { long = Some name; action = Some SetTrue }
 
--- a command with the options by which a history is read, and of which object
+-- the command with the options for reading a history: the number of threads and the kind
 abbrev pub with_object : App → App
 with_object a = with_rule (with_rule a (option_rule (codes "concurrency") (codes "2"))) (option_rule (codes "model") (codes "register"))
 
--- the same with the option by which it is judged
+-- `with_object`, and the option for judging: the budget
 abbrev pub with_settings : App → App
 with_settings a = with_rule (with_object a) (option_rule (codes "budget") (codes "4096"))
 
 abbrev pub script_app : App
-script_app = with_settings (with_rule (new_app (codes "script")) (flag_rule (codes "strict")))
+script_app = with_settings
+    (with_rule (with_rule (new_app (codes "script")) (flag_rule (codes "strict"))) (path_rule (codes "objects")))
 
 abbrev pub check_app : App
 check_app = with_settings
-    (with_rule (with_rule (new_app (codes "check")) (file_rule (codes "FILE"))) (option_rule (codes "workers") (codes "1")))
+    (with_rule (with_rule (with_rule (new_app (codes "check")) (file_rule (codes "FILE"))) (option_rule (codes "workers") (codes "1")))
+    (path_rule (codes "objects")))
 
 abbrev pub confirm_app : App
 confirm_app = with_object
-    (with_rule (with_rule (new_app (codes "confirm")) (file_rule (codes "FILE"))) (file_rule (codes "ORDER")))
+    (with_rule (with_rule (with_rule (new_app (codes "confirm")) (file_rule (codes "FILE"))) (file_rule (codes "ORDER")))
+    (path_rule (codes "objects")))
 
 abbrev pub run_app : App
 run_app = with_settings

@@ -9,17 +9,17 @@ use Rattle.run_plans.specs.declared.options.RunTexts.{RunTexts}
 abbrev pub shown_default : App → Text → Option Text
 shown_default a name = option_and_then (λ r. slice_get r.defaults 0) (arg_by_id a.top.rules name)
 
--- the help shows these texts for the options by which a history is read
+-- the help shows these texts for the options for reading a history
 abbrev pub ShowsObject : App → JudgingTexts → Type 0
 ShowsObject a texts =
     (shown_default a (codes "concurrency") ≡ Some texts.concurrency.now)
     × (shown_default a (codes "model") ≡ Some texts.model.now)
 
--- and by which it is judged
+-- the help shows these texts for the options for judging a history
 abbrev pub ShowsJudging : App → JudgingTexts → Type 0
 ShowsJudging a texts = ShowsObject a texts × (shown_default a (codes "budget") ≡ Some texts.budget.now)
 
--- and for those of a run
+-- the help shows these texts for the options of a run
 abbrev pub ShowsRun : App → RunTexts → Type 0
 ShowsRun a texts =
     ShowsJudging a texts.judging

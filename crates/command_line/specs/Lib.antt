@@ -1,4 +1,5 @@
 pub mod Commands
+pub mod Declaring
 pub mod Defaults
 pub mod Orders
 pub mod Stops

@@ -1,17 +1,17 @@
-//! The commands and their options, as `clap` has them.
-ghost use Rattle.std.specs.Prelude.{◌≡◌, false, IfOk};
+//! The commands and their options, as definitions for `clap`.
+ghost use Rattle.std.specs.Prelude.{◌≡◌, false, IfOk, codes};
 ghost use Rattle.clap.specs.Words.{app_of, new_app, rule_of};
-ghost use Rattle.command_line.specs.Commands.{bare_app, check_app, confirm_app, option_rule, program_app, run_app, script_app, with_object, with_settings};
+ghost use Rattle.command_line.specs.Commands.{bare_app, check_app, confirm_app, option_rule, path_rule, program_app, run_app, script_app, with_object, with_settings};
 
 use crate::help;
 use clap::{Arg, ArgAction, Command};
 use std::alloc::{AllocError, Global};
 
-/// How many workers judge if the words do not say it.
+/// The default number of workers.
 pub(crate) const WORKERS: &str = "1";
 
-// An option that takes a value; the help calls the value by the word `value`, and shows the default. `order` has the default value, not
-// this function.
+// Returns an option that takes a value. The help names the value by the word `value`, and shows the default. The module `order` sets the
+// default value, not this function.
 fn an_option<'a>(
     alloc: Global,
     name: &'static str,
@@ -29,7 +29,7 @@ fn an_option<'a>(
         .help(help)
 }
 
-// One that takes a number.
+// Returns an option that takes a number.
 fn a_number<'a>(
     alloc: Global,
     name: &'static str,
@@ -42,7 +42,7 @@ fn a_number<'a>(
     an_option(alloc, name, "N", default, help)
 }
 
-// One that takes a name.
+// Returns an option that takes a name.
 fn a_name<'a>(
     alloc: Global,
     name: &'static str,
@@ -55,7 +55,18 @@ fn a_name<'a>(
     an_option(alloc, name, "NAME", default, help)
 }
 
-// A command with the options by which a history is judged.
+// Returns the option for a file of objects.
+fn objects_file<'a>(alloc: Global) -> Arg<'a>
+    ensures rule { rule_of result ≡ path_rule (codes "objects") }
+    ensures global { result.global ≡ false }
+{
+    Arg::new(alloc, "objects")
+        .long("objects")
+        .value_name("FILE")
+        .help(help::OBJECTS)
+}
+
+// Returns the command with the options for judging a history.
 fn with_settings<'a>(
     alloc: Global,
     command: Command<'a>,
@@ -66,7 +77,7 @@ fn with_settings<'a>(
     with_object(alloc, command, concurrency)?.arg(a_number(alloc, "budget", "4096", help::BUDGET))
 }
 
-// A command with the options by which a history is read, and of which object.
+// Returns the command with the options for reading a history, and for the kind of its objects.
 fn with_object<'a>(
     alloc: Global,
     command: Command<'a>,
@@ -79,7 +90,7 @@ fn with_object<'a>(
         .arg(a_name(alloc, "model", "register", help::MODEL))
 }
 
-// A command without options, with these texts of its help.
+// Returns a command without options, with these texts for its help.
 fn described<'a>(
     alloc: Global,
     name: &'static str,
@@ -97,7 +108,7 @@ fn described<'a>(
         .after_long_help(forms)
 }
 
-// The command `script`, with its options and their help.
+// Returns the command `script`, with its options and their help.
 fn script<'a>(alloc: Global) -> Result<Command<'a>, AllocError>
     ensures { IfOk result (λ r. app_of r ≡ script_app) }
 {
@@ -113,11 +124,11 @@ fn script<'a>(alloc: Global) -> Result<Command<'a>, AllocError>
         help::STATUS,
         help::SCRIPT_FORMS,
     );
-    let command = bare.arg(strict)?;
+    let command = bare.arg(strict)?.arg(objects_file(alloc))?;
     with_settings(alloc, command, help::CONCURRENCY)
 }
 
-// The command `check`, with its options and their help.
+// Returns the command `check`, with its options and their help.
 fn check<'a>(alloc: Global) -> Result<Command<'a>, AllocError>
     ensures { IfOk result (λ r. app_of r ≡ check_app) }
 {
@@ -132,11 +143,12 @@ fn check<'a>(alloc: Global) -> Result<Command<'a>, AllocError>
     );
     let command = bare
         .arg(file)?
-        .arg(a_number(alloc, "workers", WORKERS, help::WORKERS))?;
+        .arg(a_number(alloc, "workers", WORKERS, help::WORKERS))?
+        .arg(objects_file(alloc))?;
     with_settings(alloc, command, help::CONCURRENCY)
 }
 
-// The command `confirm`, with its options and their help.
+// Returns the command `confirm`, with its options and their help.
 fn confirm<'a>(alloc: Global) -> Result<Command<'a>, AllocError>
     ensures { IfOk result (λ r. app_of r ≡ confirm_app) }
 {
@@ -150,11 +162,11 @@ fn confirm<'a>(alloc: Global) -> Result<Command<'a>, AllocError>
         help::CONFIRM_STATUS,
         help::CONFIRM_FORMS,
     );
-    let command = bare.arg(file)?.arg(order)?;
+    let command = bare.arg(file)?.arg(order)?.arg(objects_file(alloc))?;
     with_object(alloc, command, help::CONCURRENCY)
 }
 
-// The command `run`, with its options and their help.
+// Returns the command `run`, with its options and their help.
 fn run<'a>(alloc: Global) -> Result<Command<'a>, AllocError>
     ensures { IfOk result (λ r. app_of r ≡ run_app) }
 {
@@ -176,7 +188,7 @@ fn run<'a>(alloc: Global) -> Result<Command<'a>, AllocError>
     with_settings(alloc, command, help::CLIENTS)
 }
 
-// The program without its commands.
+// Returns the program without its commands.
 fn bare<'a>(alloc: Global) -> Result<Command<'a>, AllocError>
     ensures { IfOk result (λ r. app_of r ≡ bare_app) }
 {
@@ -188,7 +200,7 @@ fn bare<'a>(alloc: Global) -> Result<Command<'a>, AllocError>
     command.bin_name("jepmon")
 }
 
-/// The program with its commands.
+/// Returns the program with its commands.
 pub(crate) fn program<'a>(alloc: Global) -> Result<Command<'a>, AllocError>
     ensures { IfOk result (λ r. app_of r ≡ program_app) }
 {
@@ -199,7 +211,7 @@ pub(crate) fn program<'a>(alloc: Global) -> Result<Command<'a>, AllocError>
         .subcommand(run(alloc)?)
 }
 
-/// The command of this name by itself, whose usage names the program before it.
+/// Returns the command with this name alone. Its usage line names the program first.
 pub(crate) fn by_itself<'a>(alloc: Global, name: &str) -> Result<Command<'a>, AllocError> {
     let command = match name {
         "check" => check(alloc)?,

@@ -1,4 +1,4 @@
-//! The exit status where a script has ended, and if there is no order.
+//! The exit status after a script, or without an order.
 ghost use Rattle.std.specs.Prelude.{◌≡◌, false, MatchOption, MatchResult};
 ghost use Rattle.command_line.specs.Stops.{EndsWithoutOrder, IsPutOrUnwritten};
 ghost use Rattle.check_command.specs.ExitStatus.{status_of};
@@ -13,9 +13,9 @@ use std::alloc::Global;
 use std::io::{Eprint, Write};
 use std::sync::Wait;
 
-/// The exit status after a script: 0 legal, 1 illegal, 2 unknown, 3 for a script that its first refusal closed, and 3 for a
-/// refusal of the whole, whose line goes to standard error. It may wait for that; if there is no memory for the line, or an
-/// error, nothing is said.
+/// Returns the exit status after a script: 0 legal, 1 illegal, 2 unknown, 3 for a script that its first refusal closed, and 3 for a refused
+/// script. If the whole script is refused, prints the line of this refusal on standard error, which it may wait for. Prints nothing if an
+/// allocation for the line or the output fails.
 pub fn status_after<P: Eprint, L: Observer>(
     rt: &P,
     alloc: Global,
@@ -36,8 +36,8 @@ pub fn status_after<P: Eprint, L: Observer>(
     }
 }
 
-/// Says on standard error that standard output took no more, if its writer has failed; nothing else says it, since what
-/// is written there is lost. It may wait for standard error, whose errors are passed over.
+/// Reports on standard error that the writer of standard output has failed, if it has. Otherwise nobody would learn that the output is
+/// lost. It may wait for standard error, and ignores errors.
 pub fn say_unwritten<P: Eprint, W: Failed, L: Observer>(
     rt: &P,
     alloc: Global,
@@ -49,9 +49,9 @@ pub fn say_unwritten<P: Eprint, W: Failed, L: Observer>(
     }
 }
 
-/// The exit status if there is no order. The text of help or of the version is written and flushed, with 0. If that fails, it is said, with
-/// 3; so it is if there is no memory for the text. For any other stop nothing is written, with 3: a usage fault or the line of a refusal
-/// goes to standard error, whose errors are passed over. It may wait for the writer and for standard error.
+/// Returns the exit status if there is no order. For help and the version, writes and flushes their text, and returns 0. If this or an
+/// allocation for the text fails, reports the failure and returns 3. For any other stop, writes nothing and returns 3. The usage fault or
+/// the line of a refusal goes to standard error, whose errors are ignored. May wait for the writer and for standard error.
 pub fn status_of_stop<X: Wait + Eprint, W: Write + Failed + Flushes, L: Observer>(
     rt: &X,
     alloc: Global,
@@ -72,6 +72,10 @@ pub fn status_of_stop<X: Wait + Eprint, W: Write + Failed + Flushes, L: Observer
                 put_request(rt, alloc, error, writer, observer)
             }
         }
+        Stop::Objects(_place, text) => {
+            let _ = eprintln!(rt; "the file of objects is refused: {text}");
+            REFUSED
+        }
         Stop::Refused(refusal) => {
             print_refusal(rt, alloc, refusal, observer);
             REFUSED
@@ -79,7 +83,7 @@ pub fn status_of_stop<X: Wait + Eprint, W: Write + Failed + Flushes, L: Observer
     }
 }
 
-// Writes and flushes the text of help or of the version, and gives the exit status.
+// Writes and flushes the text of help or of the version, and returns the exit status.
 fn put_request<X: Wait + Eprint, W: Write + Failed + Flushes, L: Observer>(
     rt: &X,
     alloc: Global,
@@ -104,7 +108,7 @@ fn put_request<X: Wait + Eprint, W: Write + Failed + Flushes, L: Observer>(
     }
 }
 
-// Prints the line of a refusal on standard error, if that can be done.
+// Prints the line of a refusal on standard error, if possible.
 fn print_refusal<P: Eprint, L: Observer>(rt: &P, alloc: Global, refusal: &Refusal, observer: &L) {
     if let Ok(line) = refusal_text(alloc, refusal) {
         let _ = eprint!(rt; "{line}");

@@ -16,111 +16,113 @@ pub const VERSION: &str = with_version!(with_logic;);
 pub const ABOUT: &str = "Judges whether what clients saw of a store is linearizable";
 
 pub const MORE: &str =
-    "Without a command it is script, with its defaults. Its options: jepmon script --help";
+    "Without a command, jepmon runs script with its defaults; its options: jepmon script --help";
 
-pub const SCRIPT: &str = "Answers events on standard input by verdicts";
+pub const SCRIPT: &str = "Answers events on standard input with verdicts";
 
 pub const SCRIPT_LONG: &str =
-    "Reads events from standard input, a line each, and answers each on standard output,
-before it reads the next, by the verdict on all events so far:
+    "Reads events from standard input, one per line. Answers each event on standard output, before it
+reads the next one, with the verdict on all events so far:
 
   legal                    the history is linearizable
   illegal key K index I    it is not, and event I of key K is the first that shows it
   unknown key K index I    the budget of key K did not suffice at event I
 
-A line that is refused changes nothing and is answered by `refused NUMBER NAME`.";
+A refused line changes nothing, and is answered with `refused NUMBER NAME`.";
 
 pub const STRICT: &str =
-    "The first line that is refused ends the script, with status 3; without it each is answered and passed over";
+    "The first refused line ends the script, with status 3; without --strict each refused line is only answered";
 
-/// The hint for somebody at a terminal who has to type the program's input.
+/// The hint for somebody who types the program's input at a terminal.
 pub const TYPED: &str =
-    "reading events from the terminal, a line each, until Ctrl-D; jepmon --help says more";
+    "reading events from the terminal, one per line, until Ctrl-D; see jepmon --help";
 
 pub const CHECK: &str = "Judges a recorded history, whose elements are events";
 
 pub const CHECK_LONG: &str =
-    "Reads a file of events, one after the other, and judges all of them. It prints a line for each key
-that has events, in the order of their first events, and then the verdict:
+    "Reads a file of events, one after another, and judges all of them. Prints a line for each key that
+has events, in the order of their first events, and then the verdict:
 
   key K model M budget B events E status alive
-                               or dead I, where event I is the first of the key's that shows it; or
-                               over I, where the budget of the key did not suffice at event I
+                               or dead I: the key's history is not linearizable, as its event I
+                               shows first; or over I: its budget did not suffice at event I
   legal                        the history is linearizable
   illegal key K index I        it is not, and event I of key K is the first that shows it
   unknown key K index I        the budget of key K did not suffice at event I
 
-or, in place of all that,
+If it refuses the file, it prints only one of these lines:
 
-  refused NUMBER NAME event I  event I is none that may come there
-  refused NUMBER NAME          the file can't be read, or is no text";
+  refused NUMBER NAME event I  element I of the file is not an event, or may not come there
+  refused NUMBER NAME          the file cannot be read, or is not a text";
 
 pub const CONFIRM: &str =
-    "Says whether an order of a recorded history shows that it is linearizable";
+    "Says whether a given order shows that a recorded history is linearizable";
 
 pub const CONFIRM_LONG: &str =
-    "Reads a file of events, as check does, and a file with an order of their operations, and says whether
-in that order they can take place one after another, with the answers that they had and none before
-one that had returned when it began. It tries no other order. It prints one line:
+    "Reads a file of events, as check does, and a file with an order of their operations. Says whether the
+operations can take place one after another in this order, with their answers. If operation A returned
+before B was invoked, A must come before B. Tries no other order. Prints one line:
 
-  linearizable                  the order is one of the history, which is linearizable
-  no order place P event E WHY  it is none: the operation that event E invokes, at place P of the
-                                order, from 0, does not fit there; of the history nothing is said
+  linearizable                  the operations fit this order, so the history is linearizable
+  no order place P event E WHY  the operation that event E invokes, at place P of the order (from 0),
+                                does not fit there; another order may still fit
   refused 5 BadValue order place P event E WHY
-                                the list can be no order of the history's operations
+                                the list cannot be an order of the operations, whatever their answers
   refused 5 BadValue order element I
-                                element I of the order, from 0, is no index, and no vector of them
-  refused NUMBER NAME order     the order can't be read, or is no text
-  refused NUMBER NAME event I   event I is none that may come there
-  refused NUMBER NAME           the history can't be read, or is no text
+                                element I of the order (from 0) is neither an index nor a vector of
+                                indices
+  refused NUMBER NAME order     the order cannot be read, or is not a text
+  refused NUMBER NAME event I   element I of the history is not an event, or may not come there
+  refused NUMBER NAME           the history cannot be read, or is not a text
 
-WHY is, of what does not fit, one of
+WHY is one of these, for an operation that does not fit:
 
-  failed             the operation has failed, so it did not take place
-  too-late           it has returned before an operation was invoked that stands before it
-  cannot-take-place  it can't take place behind those that stand before it
-  another-answer     it would find something else there than it has answered
+  failed             it has failed, so it did not take place
+  too-late           it returned before another operation of its key was invoked, but the order has
+                     that operation before it
+  cannot-take-place  it cannot take place after the operations of its key before it
+  another-answer     there it would find another value than its answer
 
-and of a list that can be no order, one of
+and one of these, for a list that cannot be an order:
 
   no-event           the history has no event of this index
-  no-invocation      the event invokes no operation
-  twice              the operation stands in the list before
-  left-out           it has returned, and does not stand in the list, whose length P is";
+  no-invocation      the event does not invoke an operation
+  twice              the operation is already in the list before this place
+  left-out           it has returned, and is not in the list; P is the length of the list";
 
 pub const CONFIRM_STATUS: &str = "Exit status: 0 linearizable, 1 no order, 3 refused";
 
 pub const RUN: &str = "Runs clients against a store in the process, and judges what they saw";
 
 pub const RUN_LONG: &str =
-    "Runs clients against a replicated store in the process, each in a thread of its own, with faults on
-the way where they are wanted, and judges what the clients saw. It prints a line for each key that
-has events, in the order of their first events, and then the verdict, as check does:
+    "Runs clients against a replicated store in the process, each client in its own thread, and judges
+what the clients saw. With --faults on, faults strike meanwhile. Prints a line for each key that has
+events, in the order of their first events, and then the verdict, as check does:
 
   key K model M budget B events E status alive
-                               or dead I, where event I is the first of the key's that shows it; or
-                               over I, where the budget of the key did not suffice at event I
+                               or dead I: the key's history is not linearizable, as its event I
+                               shows first; or over I: its budget did not suffice at event I
   legal                        what the clients saw is linearizable
   illegal key K index I        it is not, and event I of key K is the first that shows it
   unknown key K index I        the budget of key K did not suffice at event I
 
-or, in place of all that, `refused NUMBER NAME`. What a strict store shows is never illegal. What
-clients draw follows from the seed; in which order they come does not, save with one client.";
+If it refuses the run, it prints only `refused NUMBER NAME`. A run of a strict store is never illegal.
+The seed determines what the clients draw. It determines their order only if there is one client.";
 
 pub const RUN_FORMS: &str =
-    "Each operation is drawn at random from those that the keys' object has: reads, or writes of 1, 2 and
-3 in turn, of a register; these and cas from 1 to 2, 2 to 3 and 3 to 1 of a cas-register; acquires and
-releases of a mutex; enqueues of 1, 2 and 3 in turn, and dequeues, of a queue; adds of 1, 2 and 3 in
-turn, and reads, of a set.
+    "The clients draw operations at random. A register has reads, and writes of 1, 2 and 3 in rotation. A
+cas-register has these, and cas from 1 to 2, from 2 to 3 and from 3 to 1. A mutex has acquires and
+releases. A queue has enqueues of 1, 2 and 3 in rotation, and dequeues. A set has adds of 1, 2 and 3
+in rotation, and reads.
 
-With --faults on, replica 0 is parted from the others once there are 20 events, and the network heals
-at 40; a reply is lost at 60; replica 0 crashes at 80, and starts again at 100.
+With --faults on, the network separates replica 0 from the others after 20 events, and heals after 40.
+A reply is lost after 60 events. Replica 0 crashes after 80, and starts again after 100.
 
 Exit status: 0 legal, 1 illegal, 2 unknown, 3 refused";
 
 pub const STATUS: &str = "Exit status: 0 legal, 1 illegal, 2 unknown, 3 refused";
 
-// The forms of the input, then of an event, then the refusals, then the exit status.
+// The forms of the input, the forms of an event, the refusals, and the exit status.
 macro_rules! with_forms {
     ($forms:literal, $status:literal; $($n:literal $name:literal $hint:literal),*) => {
         concat!($forms, "
@@ -128,97 +130,113 @@ macro_rules! with_forms {
 An event's :type is :invoke, or :ok (it took place), :fail (it did not) or :info (nobody knows).
 Its :process is an integer, its :value is [KEY PART] with a KEY of 0 to 65535, and its :f one of
 
-  :read      the part is nil; of an :ok an integer, nil, or a set of integers as #{1 2}
+  :read      the PART is nil; of an :ok an integer, nil, or a set of integers such as #{1 2}
   :write     an integer
-  :cas       [A B]: B is written where the value is A
+  :cas       [A B]: B is written if the value is A
   :acquire   nil
   :release   nil
   :enqueue   an integer
   :dequeue   nil; of an :ok an integer
   :add       an integer
 
-Its :index, where it has one, is the number of events before it. Other keys are dropped.
+or a name from the file of --objects. The PART is then nil, an integer or [A B], also of an :ok, whose PART
+is the answer.
 
-Refusals, and what is usually the cause of each:
+Its :index, if it has one, is the number of events before it. Other keys are ignored.
+
+Refusals, each with its usual cause:
 ", $("\n  ", $n, " ", $name, ": ", $hint,)* "\n\n", $status)
     };
 }
 
 pub const SCRIPT_FORMS: &str = each_hint!(with_forms;
-"A line of input is empty, or has one of
+"A line of input is empty, or has one of these:
 
   {:type :invoke, :process 0, :f :write, :value [7 3]}
                      an event: process 0 begins to write 3 to key 7
-  [:verdict]         the verdict is asked for
-  [:hello]           the program's version, kinds and limits are asked for
-  [:rewind N]        the first N events are kept
-  [:model KEY KIND]  the key is of this kind, as [:model 7 :mutex]
-  [:budget KEY N]    the key has this budget",
-"Exit status, by the verdict at the end: 0 legal, 1 illegal, 2 unknown. 3 where the words, standard
-input or standard output are refused; a line that is refused does not count, save with --strict.");
+  [:verdict]         asks for the verdict
+  [:hello]           asks for the program's version, kinds and limits
+  [:rewind N]        keeps only the first N events
+  [:model KEY KIND]  gives the key this kind, such as [:model 7 :mutex], or an object of --objects
+  [:budget KEY N]    gives the key this budget",
+"Exit status, by the verdict at the end: 0 legal, 1 illegal, 2 unknown. 3 if the words, standard input
+or standard output are refused. A refused line does not change it, except with --strict.");
 
 pub const CHECK_FORMS: &str = each_hint!(with_forms;
-"The file has events, one after the other:
+"The file has events, one after another:
 
   {:type :invoke, :process 0, :f :write, :value [7 3]}
                      process 0 begins to write 3 to key 7",
 "Exit status: 0 legal, 1 illegal, 2 unknown, 3 refused");
 
 pub const CONFIRM_FORMS: &str = each_hint!(with_forms;
-"The order has the indices of the events, from 0, that invoke the operations, in the order in which
-these took place: integers, or vectors of them, one after the other.
+"The order has the indices (from 0) of the events that invoke the operations, in the order in which
+the operations took place: integers, or vectors of integers, one after another.
 
   0 3 2              the operations that events 0, 3 and 2 invoke
-  [0 2] [1]          the same for each key of two, of which the operations may stand in any order
+  [0 2] [1]          a vector for each of two keys; the order between the keys does not matter
 
-What has returned must stand there. What has not completed, or has :info, may be left out: then it did
-not take place.
+An operation that has returned must be in the order. One that has not completed, or has :info, may be
+left out; then it did not take place.
 
-The file has events, one after the other:
+The file has events, one after another:
 
   {:type :invoke, :process 0, :f :write, :value [7 3]}
                      process 0 begins to write 3 to key 7",
 "Exit status: 0 linearizable, 1 no order, 3 refused");
 
-pub const ORDER: &str = "The file of the order; its indices stand in it cut into lines or not";
+pub const ORDER: &str = "The file of the order; line breaks between its indices mean nothing";
 
 pub const NO_FILE: &str =
     "script takes no file: it reads standard input, as in jepmon script < FILE; \
 jepmon check FILE judges a recorded history";
 
 pub const FILE: &str =
-    "The file, or - for standard input; its events stand in it as in script, cut into lines or not";
+    "The file, or - for standard input; it has events as in script, and line breaks mean nothing";
 
 pub const WORKERS: &str = "Threads that judge keys side by side, 1 to 64";
 
-pub const SEED: &str = "The seed of what clients draw, 0 to 9223372036854775807";
+pub const SEED: &str = "The seed of what the clients draw, 0 to 9223372036854775807";
 
-pub const OPERATIONS: &str = "Operations that are drawn, 0 to 100000";
+pub const OPERATIONS: &str = "Operations that the clients draw, 0 to 100000";
 
-pub const KEYS: &str = "Keys that they are on, 1 to 64";
+pub const KEYS: &str = "Keys of the operations, 1 to 64";
 
 pub const REPLICAS: &str = "Replicas of the store, 1 to 7";
 
 pub const MODE: &str =
-    "How they serve: strict (a majority has each operation) or sloppy (one replica alone has it)";
+    "How the replicas serve: strict (a majority has each operation) or sloppy (only one replica has it)";
 
 pub const FAULTS: &str = "Whether faults strike: off, on";
 
-pub const CLIENTS: &str = "Clients, each in a thread of its own, 1 to 63";
+pub const CLIENTS: &str = "Clients, each in its own thread, 1 to 63";
 
 pub const CONCURRENCY: &str =
     "Threads of the clients, 1 to 64; process P belongs to thread P mod N";
 
-// A text, and then the names of the kinds.
+// A text, followed by the names of the kinds.
 macro_rules! with_names {
     ($text:literal; $First:ident $first:literal, $($K:ident $name:literal),*) => {
         concat!($text, $first $(, ", ", $name)*)
     };
 }
 
-pub const MODEL: &str = each_kind!(with_names; "The object that every key is: ");
+// A text, followed by the names of the kinds and another text.
+macro_rules! names_between {
+    ($text:literal, $end:literal; $First:ident $first:literal, $($K:ident $name:literal),*) => {
+        concat!($text, $first $(, ", ", $name)*, $end)
+    };
+}
+
+pub const MODEL: &str = each_kind!(with_names; "The kind of every key: ");
 
 pub const NO_MODEL: &str = each_kind!(with_names; "--model takes one of ");
 
+pub const NO_MODEL_OR_OBJECT: &str =
+    each_kind!(names_between; "--model takes one of ", ", or an object of --objects");
+
+pub const OBJECTS: &str =
+    "A file of objects, whose names --model, [:model KEY KIND] and the :f of an event may have";
+
 pub const BUDGET: &str =
-    "Ends of one key that are kept apart, 1 to 65536; a key with more is unknown";
+    "The most ends that are kept of one key, 1 to 65536; a key with more is unknown";

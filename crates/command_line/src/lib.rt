@@ -1,11 +1,12 @@
-//! The words of the command line: the order that they give, the program's texts about itself, and the exit status after a script or without
-//! an order. `script_command`, `check_command`, `confirm_command` and `run_command` carry out the orders.
+//! The words of the command line and the order that they give; the program's texts about itself; and the exit status after a script or
+//! without an order. `script_command`, `check_command`, `confirm_command` and `run_command` carry out the orders.
 #![tactic(auto)]
 
 mod commands;
 mod exit_status;
 mod help;
 mod laws;
+mod objects_file;
 mod order;
 
 pub use exit_status::{say_unwritten, status_after, status_of_stop};

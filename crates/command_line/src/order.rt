@@ -1,98 +1,120 @@
-//! The words of the command line.
-ghost use Rattle.std.specs.Prelude.{◌≡◌, ◌≤◌, [], IfOk, IfSome, IsErrAnd, Ok, codes, drop, string_bytes};
+//! Orders, read from the words of the command line.
+ghost use Rattle.std.specs.Prelude.{◌≡◌, ◌≤◌, IfOk, IfSome, IsErrAnd, Ok, codes, drop, string_bytes};
+ghost use Rattle.std.specs.Option.{option_copied};
 ghost use Rattle.std.specs.Vec.Iter.{into_iter_items};
 ghost use Rattle.harness.specs.Setups.{setup_of, IsSetup};
 ghost use Rattle.clap.specs.Words.{found_of, kind_of, subcommand_rows_of};
 ghost use Rattle.clap.specs.declared.error.kind.ErrorKind.TheVariants.{OutOfMemory};
-ghost use Rattle.command_line.specs.Orders.{AfterJudging, AreJudgingTexts, AreRunTexts, ChecksAsFound, ConfirmsAsFound, IsNoCommand, IsWithinLimits, JudgesAsFound, RunsAsFound, ScriptsAsFound, text_found, workers_found};
+ghost use Rattle.object_kinds.specs.Objects.{kinds_of};
+ghost use Rattle.command_line.specs.Declaring.{Declares};
+ghost use Rattle.command_line.specs.Orders.{AfterJudging, AreJudgingTexts, AreRunTexts, ChecksAsFound, ConfirmsAsFound, IsNoCommand, IsWithinLimits, JudgesAsFound, RunsAsFound, ScriptsAsFound, WithObjects, text_found, text_given, workers_found};
 ghost use Rattle.command_line.specs.Stops.{IsRequest, IsStopBy, IsUsageFault};
-ghost use Rattle.command_line.specs.Words.{HasNoWords, IsOrderGiven, IsOrderIn, IsOrderOf, NamesOrder, words_of};
+ghost use Rattle.command_line.specs.Words.{HasNoWords, IsDefault, IsOrderGiven, IsOrderIn, IsOrderOf, NamesOrder, words_of};
 
+use crate::objects_file::objects_in_file;
 use crate::{commands, help};
+use check_command::Opens;
 use clap::error::ErrorKind;
 use clap::parser::ValueSource;
 use clap::{ArgMatches, Command};
 use edn::Refusal;
 use harness::Config;
 use kinds::ModelKind;
+use object_files::Place;
+use object_kinds::Objects;
+use observers::Observer;
 use run_plans::{JudgingTexts, Misspelled, OptionName, RunTexts, workers_in};
 use std::alloc::{AllocError, Global};
 use std::env::Args;
 use std::io;
+use std::sync::Wait;
 
-// The message of a text that does not spell the number of workers.
+// The message for a text that does not spell a number of workers.
 const NO_WORKERS: &str = "--workers takes a number, 1 to 64";
 
-/// The order in the words for the program.
+/// The order that the words of the command line give to the program.
 #[derive(Drop)]
 pub enum Order {
     /// Answers the lines of standard input.
     Script {
-        /// How the one-thread object is opened.
+        /// The objects that a file declares.
+        objects: Objects,
+        /// The configuration of the one-thread object.
         config: Config,
-        /// Whether the first line that is refused ends it.
+        /// Whether the first refused line ends the script.
         is_strict: bool,
     },
     /// Judges a recorded history.
     Check {
-        /// The file that it stands in; `-` for standard input.
+        /// The path of the history's file, or `-` for standard input.
         path: String,
-        /// Threads that judge its keys.
+        /// The number of workers that judge its keys.
         workers: u32,
-        /// How the one-thread object is opened.
+        /// The objects that a file declares.
+        objects: Objects,
+        /// The configuration of the one-thread object.
         config: Config,
     },
-    /// Says what an order of its operations shows of a recorded history.
+    /// Tests an order of the operations of a recorded history.
     Confirm {
-        /// The file that the history stands in; `-` for standard input.
+        /// The path of the history's file, or `-` for standard input.
         path: String,
-        /// The file that the order stands in.
+        /// The path of the order's file.
         order_path: String,
-        /// Threads of the clients.
+        /// The objects that a file declares.
+        objects: Objects,
+        /// The number of threads of the clients.
         concurrency: u32,
-        /// The object that every key is.
+        /// The kind of every key's object.
         kind: ModelKind,
     },
-    /// Runs clients against a store in the process.
+    /// Runs clients against a store inside the process.
     Run(Config),
 }
 
-/// Why there is no order.
+/// The reason why there is no order.
 #[derive(Drop)]
 pub enum Stop {
-    /// Help or the version was asked for; or the words are none that the program knows. The kind of the error says which.
+    /// The words ask for help or the version, or the program does not accept them. The kind of the error says which.
     Words(clap::Error),
-    /// A number is out of its limits, or memory was refused.
+    /// The file of objects has a fault: its place, and the text with the place, the mistake and the remedy.
+    Objects(Place, String),
+    /// A number is outside its limits, the file of objects cannot be read, or an allocation failed.
     Refused(Refusal),
 }
 
-/// The order in the words that a process got. The first word is the program's name, and the words behind it give the order. It takes memory
-/// for these words, and as [`order_of`] does.
+/// Returns the order in the words of a process. The first word is the program's name, and the others give the order. Allocates these words,
+/// and what [`order_of`] allocates.
 ///
 /// # Errors
 ///
-/// Those of [`order_of`]. If the words could not be had: `Refused` with `NoMemory` if memory was refused for them, else [`no_text`].
-pub fn order_given(alloc: Global, given: io::Result<Args>) -> Result<Order, Stop>
+/// Those of [`order_of`]. If the words are missing: `Refused` with `NoMemory` if an allocation for them failed, otherwise [`no_text`].
+pub fn order_given<X: Wait + Opens, L: Observer>(
+    rt: &X,
+    alloc: Global,
+    given: io::Result<Args>,
+    observer: &L,
+) -> Result<Order, Stop>
     ensures within { IfOk result IsWithinLimits }
-    ensures given { IsOrderGiven given result }
+    ensures given { IsOrderGiven (X.holds rt.now) given result }
 {
     match given {
         Ok(words) => match words_behind_name(alloc, words) {
-            Ok(words) => order_of(alloc, words.as_slice()),
+            Ok(words) => order_of(rt, alloc, words.as_slice(), observer),
             Err(_) => Err(Stop::Refused(Refusal::NoMemory)),
         },
         Err(error) => Err(no_words(alloc, error.kind())),
     }
 }
 
-// The words behind the program's name.
+// Returns the words after the program's name.
 fn words_behind_name(alloc: Global, words: Args) -> Result<Vec<String>, AllocError>
     ensures { IfOk result (λ rest. rest.items ≡ drop 1 (into_iter_items words)) }
 {
     words.skip(1).collect(alloc)
 }
 
-// Why there is no order if the words could not be had, by the kind of the error.
+// Returns the reason why there is no order if the words are missing, by the kind of the error.
 fn no_words(alloc: Global, kind: io::ErrorKind) -> Stop
     ensures { HasNoWords kind result }
 {
@@ -102,113 +124,187 @@ fn no_words(alloc: Global, kind: io::ErrorKind) -> Stop
     }
 }
 
-/// The order that the words after the program's name give. If there are none, it is `script` with its defaults, and takes no memory; else
-/// it takes memory for the table of the options and for their values.
+/// Returns the order that the words after the program's name give. Without words it is `script` with its defaults, and nothing is
+/// allocated. Otherwise the table of the options and their values are allocated. If the words give a file of objects, the file is read, and
+/// its objects are in memory until the process ends. Waits for this file, whose reads the observer gets.
 ///
 /// # Errors
 ///
-/// `Words` for help and the version. Also for words that the program does not have, such as a number below zero after an option. Also for
-/// a value that is not a number, and for a model, a mode or faults of another name. And for a seed, or a number of operations, keys or
-/// workers, out of its limits. `Refused` for another number out of its limits: `BadBudget` first, then `BadConcurrency`, which `run` has
-/// above 63 too, then `NoSuchReplica`; and with `NoMemory` if memory is refused.
-pub fn order_of(alloc: Global, words: &[String]) -> Result<Order, Stop>
+/// `Words` in these cases:
+///
+/// - The words ask for help or the version.
+/// - The program does not have a word, such as a number below zero after an option.
+/// - A value is not a number.
+/// - A model, a mode or faults have an unknown name. The model may also be an object of the file.
+/// - A seed, or a number of operations, keys or workers, is outside its limits.
+///
+/// `Objects` if the file of objects has a fault.
+///
+/// `Refused` with `ReadFailed` if this file cannot be read. Otherwise `Refused` if another number is outside its limits: first `BadBudget`,
+/// then `BadConcurrency`, which for `run` includes 64, then `NoSuchReplica`. Also `Refused` with `NoMemory` if an allocation fails.
+pub fn order_of<X: Wait + Opens, L: Observer>(
+    rt: &X,
+    alloc: Global,
+    words: &[String],
+    observer: &L,
+) -> Result<Order, Stop>
     ensures within { IfOk result IsWithinLimits }
-    ensures spelled { IsOrderOf (words_of words.now) result }
+    ensures spelled { IsOrderOf (X.holds rt.now) (words_of words.now) result }
 {
     if words.is_empty() {
         order_without_words(alloc)
     } else {
-        order_parsed(alloc, words)
+        order_parsed(rt, alloc, words, observer)
     }
 }
 
-// The order if there are no words: a script with its defaults.
+// Returns the order without words: a script with its defaults.
 fn order_without_words(alloc: Global) -> Result<Order, Stop>
     ensures within { IfOk result IsWithinLimits }
-    ensures default { IsOrderOf [] result }
+    ensures default { IsDefault result }
 {
     Ok(Order::Script {
+        objects: Objects::none(),
         config: Config::judging_only(alloc, 2, ModelKind::Register, 4096),
         is_strict: false,
     })
 }
 
-// The order in words, by a parse of them.
-fn order_parsed(alloc: Global, words: &[String]) -> Result<Order, Stop>
+// Parses the words, and returns their order.
+fn order_parsed<X: Wait + Opens, L: Observer>(
+    rt: &X,
+    alloc: Global,
+    words: &[String],
+    observer: &L,
+) -> Result<Order, Stop>
     ensures within { IfOk result IsWithinLimits }
-    ensures spelled { IsOrderIn (words_of words.now) result }
+    ensures spelled { IsOrderIn (X.holds rt.now) (words_of words.now) result }
 {
     let Ok(mut command) = commands::program(alloc) else {
         return Err(Stop::Refused(Refusal::NoMemory));
     };
     match command.try_get_matches_from_mut(words) {
-        Ok(matches) => order_in(alloc, &mut command, &matches),
+        Ok(matches) => order_in(rt, alloc, &mut command, &matches, observer),
         Err(error) => Err(stop_at(alloc, words, error)),
     }
 }
 
-// The order of the command that a parse found; a usage fault, if it found none.
-fn order_in(alloc: Global, command: &mut Command, matches: &ArgMatches) -> Result<Order, Stop>
+// Returns the order of the command that a parse found, or a usage fault if it found none.
+fn order_in<X: Wait + Opens, L: Observer>(
+    rt: &X,
+    alloc: Global,
+    command: &mut Command,
+    matches: &ArgMatches,
+    observer: &L,
+) -> Result<Order, Stop>
     ensures within { IfOk result IsWithinLimits }
-    ensures named { NamesOrder (subcommand_rows_of matches.now) result }
+    ensures named { NamesOrder (X.holds rt.now) (subcommand_rows_of matches.now) result }
 {
     match matches.subcommand() {
-        Some((name, options)) => order_by(alloc, name, options),
+        Some((name, options)) => order_by(rt, alloc, name, options, observer),
         None => Err(usage(command, "no command was given")),
     }
 }
 
-/// The order of the command with this name, from the found options: `run`, `check`, `confirm` or `script`. It takes memory for
-/// the parts of a run, for the path of a file, and for a usage fault.
+/// Returns the order of the command with this name (`run`, `check`, `confirm` or `script`) and the found options. Allocates the parts of a
+/// run, the path of a file, the objects of a file, and a usage fault.
 ///
 /// # Errors
 ///
 /// Those of [`order_of`], except for help and for words that the program does not have.
-pub fn order_by(alloc: Global, name: &str, options: &ArgMatches) -> Result<Order, Stop>
+pub fn order_by<X: Wait + Opens, L: Observer>(
+    rt: &X,
+    alloc: Global,
+    name: &str,
+    options: &ArgMatches,
+    observer: &L,
+) -> Result<Order, Stop>
     ensures within { IfOk result IsWithinLimits }
     ensures run { name.now ≡ codes "run" → RunsAsFound (found_of options.now) result }
     ensures check { name.now ≡ codes "check"
-        → AfterJudging (found_of options.now) (ChecksAsFound (found_of options.now)) result }
+        → AfterJudging (X.holds rt.now) (found_of options.now) (ChecksAsFound (found_of options.now)) result }
     ensures confirm { name.now ≡ codes "confirm"
-        → AfterJudging (found_of options.now) (ConfirmsAsFound (found_of options.now)) result }
+        → AfterJudging (X.holds rt.now) (found_of options.now) (ConfirmsAsFound (found_of options.now)) result }
     ensures script { name.now ≡ codes "script"
-        → AfterJudging (found_of options.now) (ScriptsAsFound (found_of options.now)) result }
+        → AfterJudging (X.holds rt.now) (found_of options.now) (ScriptsAsFound (found_of options.now)) result }
     ensures other { IsNoCommand name.now → IsErrAnd result IsUsageFault }
 {
     if name == "run" {
         run_of(alloc, options)
     } else if name == "check" || name == "confirm" || name == "script" {
-        judging_order_by(alloc, name, options)
+        judging_order_by(rt, alloc, name, options, observer)
     } else {
         Err(no_command(alloc))
     }
 }
 
-// The order of the command with this name, `check`, `confirm`, else `script`, from the found options.
-fn judging_order_by(alloc: Global, name: &str, options: &ArgMatches) -> Result<Order, Stop>
+// Returns the order of the command with this name and the found options: `check`, `confirm`, or `script` for any other name.
+fn judging_order_by<X: Wait + Opens, L: Observer>(
+    rt: &X,
+    alloc: Global,
+    name: &str,
+    options: &ArgMatches,
+    observer: &L,
+) -> Result<Order, Stop>
     ensures within { IfOk result IsWithinLimits }
     ensures check { name.now ≡ codes "check"
-        → AfterJudging (found_of options.now) (ChecksAsFound (found_of options.now)) result }
+        → AfterJudging (X.holds rt.now) (found_of options.now) (ChecksAsFound (found_of options.now)) result }
     ensures confirm { name.now ≡ codes "confirm"
-        → AfterJudging (found_of options.now) (ConfirmsAsFound (found_of options.now)) result }
+        → AfterJudging (X.holds rt.now) (found_of options.now) (ConfirmsAsFound (found_of options.now)) result }
     ensures script { name.now ≡ codes "script"
-        → AfterJudging (found_of options.now) (ScriptsAsFound (found_of options.now)) result }
+        → AfterJudging (X.holds rt.now) (found_of options.now) (ScriptsAsFound (found_of options.now)) result }
 {
-    match config_of(alloc, name, options) {
+    match objects_of(rt, alloc, options, observer) {
+        Ok(objects) => order_with(alloc, name, options, objects),
+        Err(stop) => Err(stop),
+    }
+}
+
+// Returns the objects of the file in the found options; none if they have no file.
+fn objects_of<X: Wait + Opens, L: Observer>(
+    rt: &X,
+    alloc: Global,
+    options: &ArgMatches,
+    observer: &L,
+) -> Result<Objects, Stop>
+    ensures { Declares (X.holds rt.now) (text_given (found_of options.now) (codes "objects")) result }
+{
+    match text_of(options, "objects") {
+        Some(path) => objects_in_file(rt, alloc, path, observer),
+        None => Ok(Objects::none()),
+    }
+}
+
+// Returns the order of the command with this name, the found options and these objects: `check`, `confirm`, or `script` for any other name.
+fn order_with(
+    alloc: Global,
+    name: &str,
+    options: &ArgMatches,
+    objects: Objects,
+) -> Result<Order, Stop>
+    ensures within { IfOk result IsWithinLimits }
+    ensures check { name.now ≡ codes "check"
+        → WithObjects (found_of options.now) (ChecksAsFound (found_of options.now)) objects result }
+    ensures confirm { name.now ≡ codes "confirm"
+        → WithObjects (found_of options.now) (ConfirmsAsFound (found_of options.now)) objects result }
+    ensures script { name.now ≡ codes "script"
+        → WithObjects (found_of options.now) (ScriptsAsFound (found_of options.now)) objects result }
+{
+    match config_of(alloc, name, options, objects) {
         Ok(config) => {
             if name == "check" {
-                check_of(alloc, options, config)
+                check_of(alloc, options, objects, config)
             } else if name == "confirm" {
-                confirm_of(alloc, options, config)
+                confirm_of(alloc, options, objects, config)
             } else {
-                Ok(script_of(options, config))
+                Ok(script_of(options, objects, config))
             }
         }
         Err(stop) => Err(stop),
     }
 }
 
-// Why a name that no command has gives no order.
+// Returns the usage fault of a name that is not a command.
 fn no_command(alloc: Global) -> Stop
     ensures { IsUsageFault result }
 {
@@ -218,21 +314,27 @@ fn no_command(alloc: Global) -> Stop
     }
 }
 
-// The order to answer lines, which judges as this configuration says.
-fn script_of(options: &ArgMatches, config: Config) -> Order
-    ensures { ScriptsAsFound (found_of options.now) config (Ok result) }
+// Returns the order to answer lines, with these objects and this configuration.
+fn script_of(options: &ArgMatches, objects: Objects, config: Config) -> Order
+    ensures { ScriptsAsFound (found_of options.now) objects config (Ok result) }
 {
     Order::Script {
+        objects,
         config,
         is_strict: options.get_flag("strict"),
     }
 }
 
-// The order to judge a recorded history, which judges as this configuration says.
-fn check_of(alloc: Global, options: &ArgMatches, config: Config) -> Result<Order, Stop>
+// Returns the order to judge a recorded history, with these objects and this configuration.
+fn check_of(
+    alloc: Global,
+    options: &ArgMatches,
+    objects: Objects,
+    config: Config,
+) -> Result<Order, Stop>
     requires { IsSetup (setup_of config) }
     ensures within { IfOk result IsWithinLimits }
-    ensures found { ChecksAsFound (found_of options.now) config result }
+    ensures found { ChecksAsFound (found_of options.now) objects config result }
 {
     let Some(path) = options.get_str("FILE") else {
         return Err(usage_of(alloc, "check", "check takes a file"));
@@ -244,17 +346,23 @@ fn check_of(alloc: Global, options: &ArgMatches, config: Config) -> Result<Order
         Ok(path) => Ok(Order::Check {
             path,
             workers,
+            objects,
             config,
         }),
         Err(_) => Err(Stop::Refused(Refusal::NoMemory)),
     }
 }
 
-// The order to say what an order of its operations shows of a recorded history, which is read as this configuration says.
-fn confirm_of(alloc: Global, options: &ArgMatches, config: Config) -> Result<Order, Stop>
+// Returns the order to test an order of the operations of a recorded history, which is read with these objects and this configuration.
+fn confirm_of(
+    alloc: Global,
+    options: &ArgMatches,
+    objects: Objects,
+    config: Config,
+) -> Result<Order, Stop>
     requires { IsSetup (setup_of config) }
     ensures within { IfOk result IsWithinLimits }
-    ensures found { ConfirmsAsFound (found_of options.now) config result }
+    ensures found { ConfirmsAsFound (found_of options.now) objects config result }
 {
     let Some(path) = options.get_str("FILE") else {
         return Err(usage_of(alloc, "confirm", "confirm takes a file"));
@@ -266,6 +374,7 @@ fn confirm_of(alloc: Global, options: &ArgMatches, config: Config) -> Result<Ord
         Ok((path, order_path)) => Ok(Order::Confirm {
             path,
             order_path,
+            objects,
             concurrency: config.concurrency,
             kind: config.kind,
         }),
@@ -273,7 +382,7 @@ fn confirm_of(alloc: Global, options: &ArgMatches, config: Config) -> Result<Ord
     }
 }
 
-// The two texts, with memory of their own.
+// Returns copies of the two texts.
 fn both_of(alloc: Global, first: &str, second: &str) -> Result<(String, String), AllocError>
     ensures { IfOk result (λ both. (string_bytes both.0 ≡ first.now) × (string_bytes both.1 ≡ second.now)) }
 {
@@ -283,7 +392,7 @@ fn both_of(alloc: Global, first: &str, second: &str) -> Result<(String, String),
     ))
 }
 
-// How many workers were asked for, 1 to 64.
+// Returns the number of workers in the found options, 1 to 64.
 fn workers_of(options: &ArgMatches) -> Option<u32>
     ensures found { result ≡ workers_found (found_of options.now) }
     ensures limits { IfSome result (λ workers. (1 ≤ workers) × (workers ≤ 64)) }
@@ -291,7 +400,7 @@ fn workers_of(options: &ArgMatches) -> Option<u32>
     workers_in(text_or(options, "workers", commands::WORKERS))
 }
 
-// The order to run clients.
+// Returns the order to run clients.
 fn run_of(alloc: Global, options: &ArgMatches) -> Result<Order, Stop>
     ensures within { IfOk result IsWithinLimits }
     ensures found { RunsAsFound (found_of options.now) result }
@@ -303,19 +412,25 @@ fn run_of(alloc: Global, options: &ArgMatches) -> Result<Order, Stop>
     }
 }
 
-// How the one-thread object is opened, which judges alone, by the options of the command of this name.
-fn config_of(alloc: Global, name: &str, options: &ArgMatches) -> Result<Config, Stop>
+// Returns the configuration of a one-thread object that only judges, from the found options of the command with this name. The model may be
+// one of these objects.
+fn config_of(
+    alloc: Global,
+    name: &str,
+    options: &ArgMatches,
+    objects: Objects,
+) -> Result<Config, Stop>
     ensures within { IfOk result (λ config. IsSetup (setup_of config)) }
-    ensures found { JudgesAsFound (found_of options.now) result }
+    ensures found { JudgesAsFound (kinds_of objects) (found_of options.now) result }
 {
     let defaults = JudgingTexts::defaults();
-    match judging_texts(options, &defaults).config(alloc) {
+    match judging_texts(options, &defaults).config(alloc, objects.kinds) {
         Ok(config) => Ok(config),
         Err(why) => Err(stop_by(alloc, name, why)),
     }
 }
 
-// The texts of the options of a run.
+// Returns the texts of the options of a run.
 fn run_texts<'a>(options: &ArgMatches<'a>, defaults: &RunTexts<'static>) -> RunTexts<'a>
     ensures { AreRunTexts (found_of options.now) defaults.now result }
 {
@@ -330,7 +445,7 @@ fn run_texts<'a>(options: &ArgMatches<'a>, defaults: &RunTexts<'static>) -> RunT
     }
 }
 
-// The texts of the options by which a history is judged.
+// Returns the texts of the options for judging a history.
 fn judging_texts<'a>(options: &ArgMatches<'a>, defaults: &JudgingTexts<'static>) -> JudgingTexts<'a>
     ensures { AreJudgingTexts (found_of options.now) defaults.now result }
 {
@@ -341,32 +456,43 @@ fn judging_texts<'a>(options: &ArgMatches<'a>, defaults: &JudgingTexts<'static>)
     }
 }
 
-// The text that the words give of an option, or this one if they give none. The default in the help of `clap` is passed over.
-fn text_or<'a>(options: &ArgMatches<'a>, id: &str, default: &'static str) -> &'a str
-    ensures { result.now ≡ text_found (found_of options.now) id.now default.now }
+// Returns the text of an option in the words, if the words have one.
+fn text_of<'a>(options: &ArgMatches<'a>, id: &str) -> Option<&'a str>
+    ensures { option_copied result ≡ text_given (found_of options.now) id.now }
 {
     match (options.value_source(id), options.get_str(id)) {
-        (Some(ValueSource::CommandLine), Some(text)) => text,
-        _ => default,
+        (Some(ValueSource::CommandLine), Some(text)) => Some(text),
+        _ => None,
     }
 }
 
-// Why there is no order of the command of this name: a usage fault of an option, or a refusal.
+// Returns the text of an option in the words, or `default` if the words have none. Ignores the default in the help of `clap`.
+fn text_or<'a>(options: &ArgMatches<'a>, id: &str, default: &'static str) -> &'a str
+    ensures { result.now ≡ text_found (found_of options.now) id.now default.now }
+{
+    match text_of(options, id) {
+        Some(text) => text,
+        None => default,
+    }
+}
+
+// Returns the reason why the command with this name has no order: a usage fault of an option, or a refusal.
 fn stop_by(alloc: Global, name: &str, why: Misspelled) -> Stop
     ensures { IsStopBy why result }
 {
     match why {
-        Misspelled::Unread(option) => usage_of(alloc, name, taken_by(option)),
+        Misspelled::Unread(option) => usage_of(alloc, name, taken_by(name, option)),
         Misspelled::Refused(refusal) => Stop::Refused(refusal),
     }
 }
 
-// What the option takes.
-fn taken_by(option: OptionName) -> &'static str {
+// Returns the message about the values that the option of the command with this name accepts.
+fn taken_by(name: &str, option: OptionName) -> &'static str {
     match option {
         OptionName::Budget => "--budget takes a number, 1 to 65536",
         OptionName::Concurrency => "--concurrency takes a number, 1 to 64",
-        OptionName::Model => help::NO_MODEL,
+        OptionName::Model if name == "run" => help::NO_MODEL,
+        OptionName::Model => help::NO_MODEL_OR_OBJECT,
         OptionName::Seed => "--seed takes a number, 0 to 9223372036854775807",
         OptionName::Operations => "--ops takes a number, 0 to 100000",
         OptionName::Keys => "--keys takes a number, 1 to 64",
@@ -376,7 +502,8 @@ fn taken_by(option: OptionName) -> &'static str {
     }
 }
 
-/// Why words that are not text give no order: `Words`, or `Refused` with `NoMemory` if there is no memory to say it.
+/// Returns the reason why words that are not text give no order: `Words`, or `Refused` with `NoMemory` if an allocation for the message
+/// fails.
 pub fn no_text(alloc: Global) -> Stop
     ensures { IsUsageFault result }
 {
@@ -386,7 +513,7 @@ pub fn no_text(alloc: Global) -> Stop
     }
 }
 
-// A usage fault of the command of this name, with this message.
+// Returns a usage fault of the command with this name, with this message.
 fn usage_of(alloc: Global, name: &str, message: &str) -> Stop
     ensures { IsUsageFault result }
 {
@@ -396,7 +523,7 @@ fn usage_of(alloc: Global, name: &str, message: &str) -> Stop
     }
 }
 
-// A usage fault with this message.
+// Returns a usage fault with this message.
 fn usage(command: &mut Command, message: &str) -> Stop
     ensures { IsUsageFault result }
 {
@@ -406,10 +533,10 @@ fn usage(command: &mut Command, message: &str) -> Stop
     }
 }
 
-/// The meaning of an error in these words for the program: itself for help and the version; else a usage fault.
+/// Returns the reason to stop for an error in these words. For help and the version it is the error itself, and otherwise a usage fault.
 ///
-/// If script was given a file, the message says that it takes none. If the name of a file stands in place of a command, the message says how
-/// to check this file. It takes memory for its message.
+/// If `script` was given a file, the message says that it takes none. If a path stands instead of a command, the message says how to check
+/// this file. Allocates the message.
 pub fn stop_at(alloc: Global, words: &[String], error: clap::Error) -> Stop
     ensures asked { IsRequest (kind_of error) → result ≡ Stop.Words error }
     ensures fault { (¬ IsRequest (kind_of error)) → IsUsageFault result }
@@ -422,7 +549,7 @@ pub fn stop_at(alloc: Global, words: &[String], error: clap::Error) -> Stop
     }
 }
 
-// The usage fault that an error in these words is; or out of memory.
+// Returns the usage fault for an error in these words, or the refusal `NoMemory`.
 fn fault_at(alloc: Global, words: &[String], error: clap::Error) -> Stop
     requires { ¬ IsRequest (kind_of error) }
     ensures fault { IsUsageFault result }
@@ -437,12 +564,12 @@ fn fault_at(alloc: Global, words: &[String], error: clap::Error) -> Stop
     }
 }
 
-// Whether a word looks like the path of a file.
+// Returns whether a word looks like the path of a file.
 fn is_path(word: &str) -> bool {
     word.bytes().any(|byte| byte == b'.' || byte == b'/')
 }
 
-// The usage fault of a path where a command must stand.
+// Returns the usage fault of a path that stands instead of a command.
 fn path_alone(alloc: Global, path: &str) -> Stop
     ensures { IsUsageFault result }
 {
@@ -456,7 +583,7 @@ fn path_alone(alloc: Global, path: &str) -> Stop
     }
 }
 
-// Whether the words are script and, somewhere behind it, one that is neither an option nor an option's value.
+// Returns whether the first word is `script` and a later word is neither an option nor an option's value.
 fn is_script_with_file(words: &[String]) -> bool {
     let Some(first) = words.first() else {
         return false;
@@ -469,7 +596,7 @@ fn is_script_with_file(words: &[String]) -> bool {
         })
 }
 
-// The usage fault of an error; or out of memory.
+// Returns the usage fault for an error, or the refusal `NoMemory`.
 fn fault_of(error: clap::Error) -> Stop
     requires { ¬ IsRequest (kind_of error) }
     ensures fault { IsUsageFault result }

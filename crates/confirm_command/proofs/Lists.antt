@@ -1,11 +1,11 @@
 -- an order that is read element by element
 use Rattle.std.proofs.Common.{◌≡◌, ℕ, zero, suc, ◌+◌, ◌^◌, ◌<◌, Some, None, List, [], ◌∷◌, ◌++◌, length, take, get_or, refl, sym, ap, ◌∙◌, arith}
 use Rattle.std.proofs.lemmas.List.{append_assoc, append-nil}
-use Rattle.edn.specs.Value.{Value, nil, bool, int, text, keyword, vector, pairs, members, Values, none, more, joined}
-use Rattle.edn.specs.Parts.{elements_in}
+use Rattle.edn_values.specs.Value.{Value, nil, bool, int, text, keyword, vector, pairs, members, Values, none, more, joined}
+use Rattle.edn_values.specs.Parts.{elements_in}
 use Rattle.edn.specs.Elements.{count_of}
-use Rattle.edn.specs.View.{value_of, values_of}
-use Rattle.edn.specs.declared.value.Edn.{Edn}
+use Rattle.edn_values.specs.View.{value_of, values_of}
+use Rattle.edn_values.specs.declared.value.Edn.{Edn}
 use Rattle.events.specs.Spelling.{IsNumber}
 use Rattle.confirm_command.specs.Listing.{AreIndices, listed_in, Lists, ListsAll}
 

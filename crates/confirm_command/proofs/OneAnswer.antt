@@ -1,9 +1,10 @@
 -- the bytes of a history and of an order have one answer
 use Rattle.std.proofs.Common.{◌≡◌, ℕ, ◌^◌, pos, List, [], ◌∷◌, ◌++◌, refl, sym, ap, ◌∙◌, subst}
-use Rattle.edn.specs.Value.{Value, int, Values, none, more}
+use Rattle.edn_values.specs.Value.{Value, int, Values, none, more}
 use Rattle.edn.proofs.Unique.{one_text}
 use Rattle.kinds.specs.declared.model_kind.ModelKind.{ModelKind}
 use Rattle.events.specs.declared.event.Event.{Event}
+use Rattle.events.specs.OwnNames.{OwnNames}
 use Rattle.events.specs.Spelling.{IsNumber}
 use Rattle.events.proofs.OneEvent.{spell_one}
 use Rattle.witness.specs.declared.confirming.Confirmation.{Confirmation}
@@ -14,15 +15,15 @@ use Rattle.confirm_command.specs.Listing.{AreIndices, listed_in, ListsAll, IsOrd
 use Rattle.confirm_command.specs.Found.{ComesTo, IsWhole, Shows}
 use Rattle.confirm_command.specs.declared.found.Found.TheVariants.{Shown}
 
-pushes_one : (c : ℕ) (old : List Event) (vs : Values) (events others : List Event) → PushesAll c old vs events → PushesAll c old vs others → events ≡ others
-pushes_one c old none events others a b = a ∙ sym b
-pushes_one c old (more v vs) events others a b =
-    let same = a.1.3 ∙ ap (λ e. old ++ e ∷ []) (spell_one v a.1.0 b.1.0 a.1.1 b.1.1) ∙ sym b.1.3 in
-    pushes_one c b.0 vs events others (subst (λ mid. PushesAll c mid vs events) same a.2) b.2
+pushes_one : (own : OwnNames) (c : ℕ) (old : List Event) (vs : Values) (events others : List Event) → PushesAll own c old vs events → PushesAll own c old vs others → events ≡ others
+pushes_one own c old none events others a b = a ∙ sym b
+pushes_one own c old (more v vs) events others a b =
+    let same = a.1.3 ∙ ap (λ e. old ++ e ∷ []) (spell_one own v a.1.0 b.1.0 a.1.1 b.1.1) ∙ sym b.1.3 in
+    pushes_one own c b.0 vs events others (subst (λ mid. PushesAll own c mid vs events) same a.2) b.2
 
-pub one_history : (c : ℕ) (bytes : List ℕ) (events others : List Event) → IsWhole c bytes events → IsWhole c bytes others → events ≡ others
-one_history c bytes events others a b =
-    pushes_one c [] b.0 events others (subst (λ vs. PushesAll c [] vs events) (one_text bytes a.0 b.0 a.1 b.1) a.2) b.2
+pub one_history : (own : OwnNames) (c : ℕ) (bytes : List ℕ) (events others : List Event) → IsWhole own c bytes events → IsWhole own c bytes others → events ≡ others
+one_history own c bytes events others a b =
+    pushes_one own c [] b.0 events others (subst (λ vs. PushesAll own c [] vs events) (one_text bytes a.0 b.0 a.1 b.1) a.2) b.2
 
 one_index : (v : Value) (id other : ℕ) → IsNumber (2 ^ 32) v id → IsNumber (2 ^ 32) v other → id ≡ other
 one_index v id other a b = (let both : int (pos id) ≡ int (pos other) = sym a.0 ∙ b.0 in cc)
@@ -48,10 +49,10 @@ said_one kind events ids Linearizable (NoOrder mismatch) a b = absurd (b.0 a.0)
 said_one kind events ids (NoOrder mismatch) Linearizable a b = absurd (a.0 b.0)
 said_one kind events ids (NoOrder mismatch) (NoOrder other) a b = ap NoOrder (one_mismatch kind events ids mismatch other a.1 a.2 b.1 b.2)
 
-pub one_answer_law : (c : ℕ) (kind : ModelKind) (bytes order : List ℕ) (said other : Confirmation) → ComesTo c kind bytes order (Shown said)
-    → ComesTo c kind bytes order (Shown other) → said ≡ other
-one_answer_law c kind bytes order said other a b =
+pub one_answer_law : (own : OwnNames) (c : ℕ) (kind : ModelKind) (bytes order : List ℕ) (said other : Confirmation) → ComesTo own c kind bytes order (Shown said)
+    → ComesTo own c kind bytes order (Shown other) → said ≡ other
+one_answer_law own c kind bytes order said other a b =
     said_one kind b.0 b.2.0 said other
     (subst (λ ids. Shows kind b.0 ids said) (one_order order a.2.0 b.2.0 a.2.1 b.2.1)
-    (subst (λ events. Shows kind events a.2.0 said) (one_history c bytes a.0 b.0 a.1 b.1) a.2.2))
+    (subst (λ events. Shows kind events a.2.0 said) (one_history own c bytes a.0 b.0 a.1 b.1) a.2.2))
     b.2.2

@@ -6,6 +6,7 @@ use Rattle.edn.specs.declared.refusal.Refusal.TheVariants.{NoMemory}
 use Rattle.kinds.specs.declared.model_kind.ModelKind.{ModelKind}
 use Rattle.processes.specs.Threads.{MayNotStart}
 use Rattle.events.specs.declared.event.Event.{Event}
+use Rattle.events.specs.OwnNames.{OwnNames}
 use Rattle.linspec.specs.Orders.{IsLinearizable, product}
 use Rattle.witness.specs.Orders.{IsWitness, IsMismatch, ComesFirst, marks_in}
 use Rattle.witness.specs.declared.confirming.Confirmation.{Confirmation}
@@ -20,44 +21,44 @@ use Rattle.confirm_command.specs.Listing.{IsOrderText, ListsUpTo}
 use Rattle.confirm_command.specs.declared.found.Found.{Found}
 use Rattle.confirm_command.specs.declared.found.Found.TheVariants.{Shown, RefusedEvent, Refused, RefusedElement, RefusedOrder}
 
--- the result of an order of these events: it is one of theirs, which are linearizable; or it is none, for this reason, before which all
--- fits
+-- the result for an order of these events. Linearizable: it is a legal order of theirs, so they are linearizable. NoOrder: it is not one,
+-- for this reason, at the first place that does not fit
 abbrev pub Shows : ModelKind → List Event → List ℕ → Confirmation → Type 0
 Shows kind events ids Linearizable = IsWitness kind events ids × IsLinearizable (product (λ _. kind)) (marks_in events)
 Shows kind events ids (NoOrder mismatch) =
     ¬ IsWitness kind events ids × IsMismatch kind events ids mismatch × ComesFirst kind events ids mismatch
 
--- the refusal of the history that the bytes spell; or memory ran out
-abbrev pub IsHistoryRefused : ℕ → List ℕ → Found → Type 0
-IsHistoryRefused c bytes (RefusedEvent i why) = (events : List Event) × IsRead bytes c [] events (Some (i, why))
-IsHistoryRefused c bytes (Refused why) = IsWhy bytes why ⊎ MayNotStart c why
-IsHistoryRefused c bytes _ = ⊥
+-- the refusal of the history in these bytes; or memory ran out
+abbrev pub IsHistoryRefused : OwnNames → ℕ → List ℕ → Found → Type 0
+IsHistoryRefused own c bytes (RefusedEvent i why) = (events : List Event) × IsRead own bytes c [] events (Some (i, why))
+IsHistoryRefused own c bytes (Refused why) = IsWhy bytes why ⊎ MayNotStart c why
+IsHistoryRefused own c bytes _ = ⊥
 
--- the refusal of the order that the bytes list; or memory ran out
+-- the refusal of the order in these bytes; or memory ran out
 abbrev pub IsOrderRefused : List ℕ → Found → Type 0
 IsOrderRefused bytes (RefusedElement i) = ListsUpTo bytes i
 IsOrderRefused bytes (RefusedOrder why) = IsWhy bytes why
 IsOrderRefused bytes (Refused why) = why ≡ NoMemory
 IsOrderRefused bytes _ = ⊥
 
--- the refusal of the order for this; out of memory is not the order's
+-- the finding for a refusal of the order's bytes; NoMemory is not a fault of the order
 abbrev pub refused_of_order : Refusal → Found
 refused_of_order NoMemory = Refused NoMemory
 refused_of_order why = RefusedOrder why
 
--- all elements of the bytes are events, in turn those of a history of c threads
-abbrev pub IsWhole : ℕ → List ℕ → List Event → Type 0
-IsWhole c bytes events = IsRead bytes c [] events None
+-- all elements of the bytes are events, and each one may follow those before it, in a history of c threads
+abbrev pub IsWhole : OwnNames → ℕ → List ℕ → List Event → Type 0
+IsWhole own c bytes events = IsRead own bytes c [] events None
 
 -- the finding for the bytes of a history and those of an order
-abbrev pub ComesTo : ℕ → ModelKind → List ℕ → List ℕ → Found → Type 0
-ComesTo c kind bytes order (Shown said) = (events : List Event) × IsWhole c bytes events × ((ids : List ℕ) × IsOrderText order ids × Shows kind events ids said)
-ComesTo c kind bytes order (RefusedEvent i why) = IsHistoryRefused c bytes (RefusedEvent i why)
-ComesTo c kind bytes order (Refused why) = IsHistoryRefused c bytes (Refused why)
-ComesTo c kind bytes order (RefusedElement i) = (events : List Event) × IsWhole c bytes events × IsOrderRefused order (RefusedElement i)
-ComesTo c kind bytes order (RefusedOrder why) = (events : List Event) × IsWhole c bytes events × IsOrderRefused order (RefusedOrder why)
+abbrev pub ComesTo : OwnNames → ℕ → ModelKind → List ℕ → List ℕ → Found → Type 0
+ComesTo own c kind bytes order (Shown said) = (events : List Event) × IsWhole own c bytes events × ((ids : List ℕ) × IsOrderText order ids × Shows kind events ids said)
+ComesTo own c kind bytes order (RefusedEvent i why) = IsHistoryRefused own c bytes (RefusedEvent i why)
+ComesTo own c kind bytes order (Refused why) = IsHistoryRefused own c bytes (Refused why)
+ComesTo own c kind bytes order (RefusedElement i) = (events : List Event) × IsWhole own c bytes events × IsOrderRefused order (RefusedElement i)
+ComesTo own c kind bytes order (RefusedOrder why) = (events : List Event) × IsWhole own c bytes events × IsOrderRefused order (RefusedOrder why)
 
--- the word for why an operation does not fit
+-- the word of a reason
 abbrev pub word_of : MismatchReason → List ℕ
 word_of NoEvent = codes "no-event"
 word_of NoInvocation = codes "no-invocation"
@@ -68,7 +69,8 @@ word_of CannotTakePlace = codes "cannot-take-place"
 word_of AnotherAnswer = codes "another-answer"
 word_of LeftOut = codes "left-out"
 
--- a list that can't be an order of the history's operations, whatever they found, is refused; any other is said to be none
+-- a list that can't be an order of the history's operations, whatever their answers, is refused; any other list with a mismatch is `no
+-- order`
 abbrev pub opening_of : MismatchReason → List ℕ
 opening_of NoEvent = codes "refused 5 BadValue order"
 opening_of NoInvocation = codes "refused 5 BadValue order"
@@ -90,7 +92,7 @@ mismatch_line mismatch = line_of (opening_of mismatch.why ∷ codes " place " �
 abbrev pub order_line : Refusal → List ℕ
 order_line why = line_of (codes "refused " ∷ decimal (number_of why) ∷ codes " " ∷ name_of why ∷ place_text why ∷ codes " order" ∷ [])
 
--- the line that says it
+-- the line of the finding
 abbrev pub found_text : Found → List ℕ
 found_text (Shown Linearizable) = codes "linearizable\n"
 found_text (Shown (NoOrder mismatch)) = mismatch_line mismatch
@@ -99,7 +101,7 @@ found_text (Refused why) = refusal_line why
 found_text (RefusedElement i) = line_of (codes "refused 5 BadValue order element " ∷ decimal i ∷ [])
 found_text (RefusedOrder why) = order_line why
 
--- the exit status that it gives
+-- the exit status of the finding
 abbrev pub found_status : Found → ℕ
 found_status (Shown Linearizable) = 0
 found_status (Shown (NoOrder mismatch)) = status_of_reason mismatch.why

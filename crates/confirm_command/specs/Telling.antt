@@ -6,7 +6,7 @@ use Rattle.edn.specs.declared.refusal.Refusal.TheVariants.{NoMemory}
 use Rattle.line_loop.specs.RefusalLine.{refusal_line}
 use Rattle.check_command.specs.Checks.{IsPut}
 
--- the line was put with this status; or that of out of memory, if there was none
+-- the line was written with this status, or the line of NoMemory if there was no memory for the line
 abbrev pub PutsLine : Result (String Global) AllocError → ℕ → Option (List ℕ) → Option (List ℕ) → Bool → Bool → ℕ → Type 0
 PutsLine (Ok line) line_status = IsPut (string_bytes line) line_status
 PutsLine (Err e) line_status = IsPut (refusal_line NoMemory) 3

@@ -2,6 +2,8 @@
 ghost use Rattle.std.specs.Prelude.{◌≡◌, ◌⊎◌, [], None, IfOk, IfErr};
 ghost use Rattle.edn.specs.Refusals.{IsWhy};
 ghost use Rattle.processes.specs.Threads.{MayNotStart};
+ghost use Rattle.std.specs.Option.{option_copied};
+ghost use Rattle.events.specs.OwnNames.{own_by};
 ghost use Rattle.check_command.specs.Reading.{IsRead};
 ghost use Rattle.confirm_command.specs.Listing.{IsOrderText};
 ghost use Rattle.confirm_command.specs.Found.{ComesTo, Shows, IsHistoryRefused, IsOrderRefused, refused_of_order};
@@ -11,6 +13,7 @@ use check_command::read_events;
 use edn::Refusal;
 use history::History;
 use kinds::ModelKind;
+use object_names::Names;
 use observers::Observer;
 use std::alloc::Global;
 use witness::{Confirmation, confirm};
@@ -18,34 +21,35 @@ use witness::{Confirmation, confirm};
 /// The finding for an order of a recorded history.
 #[derive(Drop)]
 pub enum Found {
-    /// Both were read to their ends: the result of the order.
+    /// Both were read to their ends. The field has the result for the order.
     Shown(Confirmation),
-    /// So many elements of the history were taken, and the next one was refused.
+    /// This number of elements of the history were accepted, and the next one was refused.
     RefusedEvent(usize, Refusal),
-    /// A refusal of the history, other than that of an element.
+    /// A refusal of the whole history, not of one element.
     Refused(Refusal),
-    /// So many elements of the order list indices, and the next one does not.
+    /// This number of elements of the order list indices, and the next one does not.
     RefusedElement(usize),
-    /// A refusal of the order, other than that of an element.
+    /// A refusal of the whole order, not of one element.
     RefusedOrder(Refusal),
 }
 
-/// Reads a history of `concurrency` threads from bytes whose elements are events, and an order of its operations from others. It returns the
-/// result of the order, where each key is an object of this kind.
+/// Reads a history of `concurrency` threads from bytes whose elements are events, and an order of its operations from other bytes. Each key
+/// is an object of this kind. Returns the result for the order. Operations may have the `names` of a file of objects, if there is one.
 ///
-/// A refusal of the history comes first. The bytes of each are read to their end. Costs O(bytes), and what [`confirm`] costs. The observer
+/// A refusal of the history has priority. The bytes of each are read to their end. Costs O(bytes), and what [`confirm`] costs. The observer
 /// gets the number of accepted events, and the refusal.
 pub fn confirm_bytes<L: Observer>(
     alloc: Global,
+    names: Option<&Names>,
     concurrency: u32,
     kind: ModelKind,
     bytes: &[u8],
     order: &[u8],
     observer: &L,
 ) -> Found
-    ensures { ComesTo concurrency kind bytes.now order.now result }
+    ensures { ComesTo (own_by (option_copied names.entry)) concurrency kind bytes.now order.now result }
 {
-    let history = match history_of(alloc, concurrency, bytes, observer) {
+    let history = match history_of(alloc, names, concurrency, bytes, observer) {
         Ok(history) => history,
         Err(found) => return found,
     };
@@ -55,7 +59,7 @@ pub fn confirm_bytes<L: Observer>(
     }
 }
 
-// The result of the order for the history.
+// Returns the result of the order for the history.
 fn shown(alloc: Global, history: History, kind: ModelKind, order: &[u32]) -> Found
     ensures { ((said : Confirmation) × (result ≡ Found.Shown said)
         × Shows kind history.events order.now said)
@@ -67,17 +71,20 @@ fn shown(alloc: Global, history: History, kind: ModelKind, order: &[u32]) -> Fou
     }
 }
 
-// The history that the bytes spell, or what is refused of it.
+// Returns the history that the bytes spell, or its refusal.
 fn history_of<L: Observer>(
     alloc: Global,
+    names: Option<&Names>,
     concurrency: u32,
     bytes: &[u8],
     observer: &L,
 ) -> Result<History, Found>
-    ensures read { IfOk result (λ history. IsRead bytes.now concurrency [] history.events None) }
-    ensures refused { IfErr result (IsHistoryRefused concurrency bytes.now) }
+    ensures read { IfOk result (λ history.
+        IsRead (own_by (option_copied names.entry)) bytes.now concurrency [] history.events None) }
+    ensures refused { IfErr result
+        (IsHistoryRefused (own_by (option_copied names.entry)) concurrency bytes.now) }
 {
-    match events_of(alloc, concurrency, bytes, observer) {
+    match events_of(alloc, names, concurrency, bytes, observer) {
         Ok((history, None)) => Ok(history),
         Ok((_, Some((taken, refusal)))) => {
             observer.refused(&refusal);
@@ -90,22 +97,24 @@ fn history_of<L: Observer>(
     }
 }
 
-// The history that is read of the bytes, and the first element that is refused.
+// Returns the history that was read from the bytes, and the first element that was refused, if there is one.
 fn events_of<L: Observer>(
     alloc: Global,
+    names: Option<&Names>,
     concurrency: u32,
     bytes: &[u8],
     observer: &L,
 ) -> Result<(History, Option<(usize, Refusal)>), Refusal>
-    ensures read { IfOk result (λ read. IsRead bytes.now concurrency [] read.0.events read.1) }
+    ensures read { IfOk result (λ read.
+        IsRead (own_by (option_copied names.entry)) bytes.now concurrency [] read.0.events read.1) }
     ensures refused { IfErr result (λ why. IsWhy bytes.now why ⊎ MayNotStart concurrency why) }
 {
     let mut history = History::new(alloc, concurrency)?;
-    let first = read_events(alloc, &mut history, bytes, observer)?;
+    let first = read_events(alloc, names, &mut history, bytes, observer)?;
     Ok((history, first))
 }
 
-// The order that the bytes list, or what is refused of it.
+// Returns the order that the bytes list, or its refusal.
 fn order_of<L: Observer>(alloc: Global, bytes: &[u8], observer: &L) -> Result<Vec<u32>, Found>
     ensures read { IfOk result (λ order. IsOrderText bytes.now order.items) }
     ensures refused { IfErr result (IsOrderRefused bytes.now) }
@@ -120,7 +129,7 @@ fn order_of<L: Observer>(alloc: Global, bytes: &[u8], observer: &L) -> Result<Ve
     }
 }
 
-/// The refusal of the order for this. Out of memory is not the order's.
+/// Returns the refusal of the order as a finding. A failed allocation is not a refusal of the order.
 pub(crate) fn refused_order(refusal: Refusal) -> Found
     ensures { result ≡ refused_of_order refusal }
 {

@@ -1,7 +1,7 @@
 //! The order of operations that a text lists.
 ghost use Rattle.std.specs.Prelude.{◌^◌, IfOk, IfErr, true, false};
 ghost use Rattle.edn.specs.Refusals.{IsWhy};
-ghost use Rattle.edn.specs.View.{value_of, values_of};
+ghost use Rattle.edn_values.specs.View.{value_of, values_of};
 ghost use Rattle.models.specs.Names.{Finds};
 ghost use Rattle.events.specs.Spelling.{IsNumber};
 ghost use Rattle.confirm_command.specs.Listing.{IsOrderText, ListsUpTo, ListsAll, HaltsAt, Brings, listed_in};
@@ -10,14 +10,14 @@ use edn::{Edn, Refusal, read_all};
 use std::alloc::{AllocError, Global};
 use std::slice;
 
-/// The indices that the elements of a text list, one after another: each element is an index, an integer of 0 to 2^32 - 1, or a
-/// vector of them. Or by its place the first element that is neither.
+/// Returns the indices that the elements of a text list, one after another. Each element is an index (an integer from 0 to 2^32 - 1) or a
+/// vector of indices. Otherwise returns the place of the first element that is neither.
 ///
 /// Costs O(bytes), and memory for all elements.
 ///
 /// # Errors
 ///
-/// `Unreadable` if the bytes are not a text, with its place; `NoMemory` if memory is refused.
+/// `Unreadable` with its place if the bytes are not a text; `NoMemory` if an allocation fails.
 pub fn indices_of_text(alloc: Global, bytes: &[u8]) -> Result<Result<Vec<u32>, usize>, Refusal>
     ensures listed { IfOk result (λ listed. IfOk listed (λ order. IsOrderText bytes.now order.items)) }
     ensures halted { IfOk result (λ listed. IfErr listed (ListsUpTo bytes.now)) }
@@ -29,10 +29,10 @@ pub fn indices_of_text(alloc: Global, bytes: &[u8]) -> Result<Result<Vec<u32>, u
     Ok(listed?)
 }
 
-// Drops elements, by itself for the prover's sake.
+// Drops the elements, in a separate function for the prover.
 fn discard(_elements: Vec<Edn>) {}
 
-// Those that the elements list; or the place of the first that lists none.
+// Returns the indices that the elements list, or the place of the first element that lists none.
 fn indices_of(alloc: Global, elements: &[Edn]) -> Result<Result<Vec<u32>, usize>, AllocError>
     ensures listed { IfOk result (λ listed. IfOk listed (λ order.
         ListsAll (values_of elements.now) order.items)) }
@@ -47,7 +47,7 @@ fn indices_of(alloc: Global, elements: &[Edn]) -> Result<Result<Vec<u32>, usize>
     Ok(Ok(order))
 }
 
-// Pushes the indices that an element lists, if it lists some.
+// Pushes the indices that the element lists. Returns false if it lists none.
 fn push_listed(order: &mut Vec<u32>, element: &Edn) -> Result<bool, AllocError>
     ensures { IfOk result (Brings (listed_in (value_of element.now)) order.old.items order.new.items) }
 {
@@ -57,7 +57,7 @@ fn push_listed(order: &mut Vec<u32>, element: &Edn) -> Result<bool, AllocError>
     }
 }
 
-// Pushes the indices that the elements are, up to the first that is none.
+// Pushes the indices among the elements, up to the first element that is not an index. Returns whether all of them are indices.
 fn push_indices(order: &mut Vec<u32>, elements: &[Edn]) -> Result<bool, AllocError>
     ensures { IfOk result (Brings (values_of elements.now) order.old.items order.new.items) }
 {
@@ -70,7 +70,7 @@ fn push_indices(order: &mut Vec<u32>, elements: &[Edn]) -> Result<bool, AllocErr
     Ok(true)
 }
 
-// The index that an element is, if it is one.
+// Returns the index of the element, if it is one.
 fn index_of(element: &Edn) -> Option<u32>
     ensures { Finds result (IsNumber (2 ^ 32) (value_of element.now)) }
 {

@@ -1,4 +1,4 @@
-//! The line that says what was found, and its exit status.
+//! The line of a finding, and its exit status.
 ghost use Rattle.std.specs.Prelude.{◌≡◌, ◌≢◌, IfOk, IfSome, IfNone, string_bytes};
 ghost use Rattle.confirm_command.specs.declared.found.Found.{Found};
 ghost use Rattle.confirm_command.specs.Found.{found_status, found_text, opening_of, order_line, status_of_reason, mismatch_line, word_of};
@@ -14,15 +14,16 @@ use std::io::Write;
 use std::sync::Wait;
 use witness::{Confirmation, Mismatch, MismatchReason};
 
-// The lines that need no memory: the line of a reader that failed, which the out-of-memory line may not replace, and the line of an order
-// which is one.
+// The lines that do not need an allocation. One is for a reader that failed, and the line of `NoMemory` must not replace it. Another is for
+// a list that is an order.
 const READ_FAILED: &str = "refused 20 ReadFailed\n";
 
 const ORDER_READ_FAILED: &str = "refused 20 ReadFailed order\n";
 
 const LINEARIZABLE: &str = "linearizable\n";
 
-// Writes the finding, or the line of out of memory if there is none for it, flushes, and gives the exit status: 3 if the writer has failed.
+// Writes and flushes the line of the finding, or the line of `NoMemory` if an allocation for it fails. Returns the exit status, which is 3
+// if the writer has failed.
 pub(crate) fn tell<X: Wait, W: Write + Failed + Flushes>(
     rt: &X,
     alloc: Global,
@@ -39,7 +40,8 @@ pub(crate) fn tell<X: Wait, W: Write + Failed + Flushes>(
     }
 }
 
-// Writes the line and returns this status. If there is no memory for the line, writes the line for that refusal and returns its status.
+// Writes the line and returns `status`. If there is no line because an allocation failed, writes the line of `NoMemory` and returns its
+// status.
 fn tell_line<X: Wait, W: Write + Failed + Flushes>(
     rt: &X,
     line: Result<String, AllocError>,
@@ -55,7 +57,7 @@ fn tell_line<X: Wait, W: Write + Failed + Flushes>(
     }
 }
 
-// The line of the finding, if it takes no memory.
+// Returns the line of the finding, if it does not need an allocation.
 fn line_without_memory(found: &Found) -> Option<&'static str>
     ensures line { IfSome result (λ line. line.now ≡ found_text found.now) }
     ensures none { IfNone result ((found.now ≢ Found.Refused Refusal.ReadFailed)
@@ -69,7 +71,7 @@ fn line_without_memory(found: &Found) -> Option<&'static str>
     }
 }
 
-// The line of a reader that failed, if that is the refusal.
+// Returns `line` if the refusal is `ReadFailed`.
 fn line_of_failed(refusal: &Refusal, line: &'static str) -> Option<&'static str>
     ensures line { IfSome result (λ given. (given.now ≡ line.now)
         × (refusal.now ≡ Refusal.ReadFailed)) }
@@ -81,7 +83,7 @@ fn line_of_failed(refusal: &Refusal, line: &'static str) -> Option<&'static str>
     }
 }
 
-// The line of the finding.
+// Returns the line of the finding.
 fn line_of(alloc: Global, found: &Found) -> Result<String, AllocError>
     ensures { IfOk result (λ text. string_bytes text ≡ found_text found.now) }
 {
@@ -97,7 +99,7 @@ fn line_of(alloc: Global, found: &Found) -> Result<String, AllocError>
     }
 }
 
-// The line of an operation that does not fit.
+// Returns the line of an operation that does not fit.
 fn mismatch_text(alloc: Global, mismatch: &Mismatch) -> Result<String, AllocError>
     ensures { IfOk result (λ text. string_bytes text ≡ mismatch_line mismatch.now) }
 {
@@ -108,7 +110,7 @@ fn mismatch_text(alloc: Global, mismatch: &Mismatch) -> Result<String, AllocErro
     format!(in alloc; "{opening} place {place} event {event} {word}\n")
 }
 
-// The line of the refusal of an order.
+// Returns the line of the refusal of an order.
 fn order_text(alloc: Global, refusal: &Refusal) -> Result<String, AllocError>
     ensures { IfOk result (λ text. string_bytes text ≡ order_line refusal.now) }
 {
@@ -118,7 +120,7 @@ fn order_text(alloc: Global, refusal: &Refusal) -> Result<String, AllocError>
     format!(in alloc; "refused {number} {name}{place} order\n")
 }
 
-// The exit status of the finding.
+// Returns the exit status of the finding.
 fn status_of(found: &Found) -> u8
     ensures { result ≡ found_status found.now }
 {
@@ -129,7 +131,7 @@ fn status_of(found: &Found) -> u8
     }
 }
 
-// The begin of the line of a mismatch.
+// Returns the beginning of the line of a mismatch.
 fn opening_of(why: MismatchReason) -> &'static str
     ensures { result.now ≡ opening_of why }
 {
@@ -145,7 +147,7 @@ fn opening_of(why: MismatchReason) -> &'static str
     }
 }
 
-// The exit status of a mismatch, by its reason.
+// Returns the exit status of a mismatch with this reason.
 fn status_of_reason(why: MismatchReason) -> u8
     ensures { result ≡ status_of_reason why }
 {
@@ -161,7 +163,7 @@ fn status_of_reason(why: MismatchReason) -> u8
     }
 }
 
-// The word for a reason.
+// Returns the word for a reason.
 fn word_of(why: MismatchReason) -> &'static str
     ensures { result.now ≡ word_of why }
 {

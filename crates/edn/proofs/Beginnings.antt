@@ -1,7 +1,7 @@
 -- An element by its first byte
 use Rattle.std.proofs.Common.{◌≡◌, ℕ, ◌+◌, ◌<◌, ◌≤◌, Bool, true, false, List, [], ◌∷◌, ◌++◌, length, refl, sym, ap, ap₂, ◌∙◌, subst, arith}
 use Rattle.std.specs.Prelude.{IsUtf8}
-use Rattle.edn.specs.Value.{Value, vector, pairs, members, Values, Pairs, in_text, keys, AreDistinct}
+use Rattle.edn_values.specs.Value.{Value, pairs, members, Values, Pairs, in_text, keys, AreDistinct}
 use Rattle.edn.specs.Bytes.{is_white, IsAtom, MayFollowAtom}
 use Rattle.edn.specs.Reading.{closes, IsToken}
 use Rattle.edn.specs.Text.{SkipsLine, SkipsGap, ReadsString, Reads, ReadsAll}

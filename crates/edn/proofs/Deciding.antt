@@ -1,5 +1,5 @@
 -- The answers of functions that decide a fact, and the errors of the functions that they call
-use Rattle.std.proofs.Common.{◌≡◌, ◌≢◌, ℕ, ◌+◌, ◌≤◌, arith, subst, Bool, true, false, IsTrue, refl, sym, ap, ◌∙◌, Result, Ok, Err}
+use Rattle.std.proofs.Common.{◌≡◌, subst, Bool, false, IsTrue, sym, ap, ◌∙◌, Result, Ok, Err}
 use Rattle.std.specs.Result.{IsErrOf, IsErrAnd, IfOk}
 use Rattle.std.proofs.lemmas.Result.{err_from_is_err_and}
 use Rattle.edn.specs.declared.read_error.ReadError.{ReadError}
@@ -11,18 +11,11 @@ off r P e f p = cc (f p)
 pub none_here : (P : Type 0) → (P → ⊥) → (IsTrue false → P) × (P → IsTrue false)
 none_here P n = (λ e. absurd cc, λ p. absurd (n p))
 
-pub all_here : (P : Type 0) → P → (IsTrue true → P) × (P → IsTrue true)
-all_here P p = (λ e. p, λ q. refl)
-
 pub same_error : {X Y : Type 0} {r : Result X ReadError} {a b c : ReadError} → r ≡ Err a → a ≡ b → IsErrOf r c → IsErrOf {T = Y} (Err b) c
 same_error {X} {Y} {r} {a} {b} {c} e f h =
     let k : ◌≡◌ {A = Result X ReadError} (Err a) (Err c) = sym e ∙ h in
     let l : a ≡ c = cc in
     ap (λ x. Err x) (sym f ∙ l)
-
--- fewer than a number, so one more is at most that number
-pub one_more : (few many : ℕ) → few ≤ many → few ≢ many → few + 1 ≤ many
-one_more few many within other = grind arith
 
 -- a read value is not a refusal, and a refusal has no value
 pub was_read : {X : Type 0} {x : X} {P : Type 0} → IsErrOf (Ok x) Unreadable → P

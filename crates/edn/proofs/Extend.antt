@@ -1,6 +1,6 @@
 -- A reader of the whole text reads the same element as a reader of a prefix, if some of the prefix is left
 use Rattle.std.proofs.Common.{◌≡◌, ℕ, ◌<◌, List, [], ◌∷◌, ◌++◌, length, ◌⊎◌, inl, inr, refl, ap, ◌∙◌, arith, append_assoc, append-nil}
-use Rattle.edn.specs.Value.{Value, Values}
+use Rattle.edn_values.specs.Value.{Value, Values}
 use Rattle.edn.specs.Bytes.{IsAtom, MayFollowAtom}
 use Rattle.edn.specs.Text.{SkipsLine, SkipsGap, ReadsString, Reads, ReadsAll}
 use Rattle.edn.specs.Bytes.{SpellsByte}

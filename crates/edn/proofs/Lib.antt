@@ -6,17 +6,9 @@ pub mod Beginnings
 pub mod Digits
 pub mod Names
 pub mod Longest
-pub mod Equivalence
-pub mod Matching
-pub mod PairMatching
 pub mod Pairing
-pub mod Repeats
-mod Rising
-pub mod Scalars
 pub mod Deciding
 pub mod Views
-pub mod Digests
-pub mod Told
 pub mod Extend
 pub mod Prefixes
 pub mod OneByOne

@@ -1,7 +1,7 @@
 -- The longest atom, by the byte that it begins with
 use Rattle.std.proofs.Common.{◌≡◌, ℕ, suc, ◌-◌, ◌^◌, ◌<◌, ◌≤◌, List, [], ◌∷◌, ◌++◌, length, inl, inr, refl, sym, ap, ◌∙◌, subst, arith, append-nil, length-append, pos, neg_ℤ}
 use Rattle.std.specs.Str.Parse.{digits_value}
-use Rattle.edn.specs.Value.{Value, int, keyword}
+use Rattle.edn_values.specs.Value.{Value, int, keyword}
 use Rattle.edn.specs.Bytes.{IsNumeral, IsKeywordText, IsAtom}
 use Rattle.edn.specs.Longest.{IsWord, IsNumeralOf, IsName, TakesOffPlus, IsLongest, HasNone}
 use Rattle.edn.specs.Longest.IsWord.{nil_word, true_word, false_word}

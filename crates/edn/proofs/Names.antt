@@ -5,7 +5,7 @@ use Rattle.std.specs.Str.{IsAscii, IsUtf8}
 use Rattle.std.proofs.lemmas.Str.{IsUtf8-from_ascii}
 use Rattle.std.proofs.lemmas.Bool.Decides.{nat_tests}
 use Rattle.std.specs.List.{AllByRecursion}
-use Rattle.edn.specs.Value.{keyword}
+use Rattle.edn_values.specs.Value.{keyword}
 use Rattle.edn.specs.Bytes.IsAtom.{named}
 use Rattle.edn.specs.Bytes.{is_one_of, is_digit, IsAtom, is_letter, goes_on, IsKeywordText}
 use Rattle.edn.specs.Longest.{IsName, GoesOn, IsLongest, HasNone}

@@ -1,12 +1,12 @@
 -- Elements of a text that are given one after the other
 use Rattle.std.proofs.Common.{◌≡◌, ℕ, ◌+◌, ◌<◌, Option, Some, None, option_map, IfSome, IfNone, List, [], length, refl, sym, ap, ◌∙◌, subst, arith}
-use Rattle.edn.specs.Value.{Value, Values, none, more, joined}
+use Rattle.edn_values.specs.Value.{Value, Values, none, more, joined}
 use Rattle.edn.specs.Text.{SkipsGap, IsText}
 use Rattle.edn.specs.Text.ReadsAll.{no_more, one_more}
 use Rattle.edn.specs.Reading.{FindsNext}
 use Rattle.edn.specs.Elements.{IsLeftBehind, count_of}
-use Rattle.edn.specs.View.{value_of}
-use Rattle.edn.specs.declared.value.Edn.{Edn}
+use Rattle.edn_values.specs.View.{value_of}
+use Rattle.edn_values.specs.declared.value.Edn.{Edn}
 use Rattle.edn.proofs.Spellings.{closed_no_gap}
 use Rattle.edn.proofs.Unique.{one_list}
 use Rattle.edn.proofs.Beginnings.{gap_shorter, reads_shorter}

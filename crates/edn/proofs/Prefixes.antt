@@ -1,6 +1,6 @@
 -- Fronts of a text, seen from where the reader stands
 use Rattle.std.proofs.Common.{◌≡◌, ℕ, zero, suc, ◌+◌, ◌-◌, ◌<◌, ◌≤◌, Bool, true, false, List, [], ◌∷◌, ◌++◌, length, ◌⊎◌, inl, inr, refl, sym, ap, ◌∙◌, subst, arith, append_assoc, append-nil, length-append}
-use Rattle.edn.specs.Value.{Value, Values, none, more}
+use Rattle.edn_values.specs.Value.{Value, Values, none, more}
 use Rattle.edn.specs.Bytes.{is_white, IsAtom, MayFollowAtom}
 use Rattle.edn.specs.Reading.{IsToken}
 use Rattle.edn.specs.Text.{SkipsLine, SkipsGap, ReadsString, Reads, ReadsAll, IsText, IsTextPrefix, IsLongestTextPrefix}

@@ -1,6 +1,6 @@
 -- A list of elements that is read on: the first k elements go to discards
 use Rattle.std.proofs.Common.{◌≡◌, ℕ, zero, suc, ◌<◌, ◌⊎◌, inl, inr, true, false, IsTrue, Some, None, List, ◌∷◌, refl, sym, ap, ◌∙◌, subst, arith}
-use Rattle.edn.specs.Value.{Value, Values, none, more, joined}
+use Rattle.edn_values.specs.Value.{Value, Values, none, more, joined}
 use Rattle.edn.specs.Bytes.{is_white}
 use Rattle.edn.specs.Reading.{closes, HasNoElement, HasNoInside, FindsNext}
 use Rattle.edn.specs.Text.{SkipsLine, SkipsGap, Reads, ReadsAll}

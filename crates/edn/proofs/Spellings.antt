@@ -2,7 +2,7 @@
 use Rattle.std.proofs.Common.{◌≡◌, ℕ, ◌≤◌, Bool, true, false, IsTrue, List, [], ◌∷◌, ◌++◌, inl, inr, refl, sym, ap, ◌∙◌, subst, arith}
 use Rattle.std.specs.Prelude.{◌||◌, ◌&&◌, ◌==◌}
 use Rattle.std.specs.List.{AllByRecursion}
-use Rattle.edn.specs.Value.{Value}
+use Rattle.edn_values.specs.Value.{Value}
 use Rattle.edn.specs.Bytes.{is_one_of, is_white, ends_atom, is_digit, is_letter, goes_on, MayFollowAtom, IsNumeral, IsKeywordText, IsAtom}
 use Rattle.edn.specs.Reading.{IsToken, closes}
 use Rattle.edn.specs.Bytes.IsAtom.{spelled_nil, spelled_true, spelled_false, plain, plus, minus, named}

@@ -1,6 +1,6 @@
 -- One reading
 use Rattle.std.proofs.Common.{◌≡◌, ℕ, true, false, IsTrue, List, ◌∷◌, ◌++◌, refl, sym, ap, ap₂, ◌∙◌, subst}
-use Rattle.edn.specs.Value.{Value, text, vector, pairs, members, Values, more, Pairs, no_pairs, pair, in_text}
+use Rattle.edn_values.specs.Value.{Value, text, vector, pairs, members, Values, more, Pairs, no_pairs, pair, in_text}
 use Rattle.edn.specs.Bytes.{is_white, IsAtom, IsEscape, SpellsByte}
 use Rattle.edn.specs.Reading.{closes}
 use Rattle.edn.specs.Text.{SkipsLine, SkipsGap, ReadsString, Reads, ReadsAll, IsText}

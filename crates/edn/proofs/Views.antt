@@ -2,9 +2,9 @@
 use Rattle.std.proofs.Common.{◌≡◌, List, [], ◌∷◌, ◌++◌, refl, ap, rules, Vec, ℤ}
 use Rattle.std.specs.Prelude.{String, string_bytes}
 use Rattle.std.specs.declared.alloc.Global.{Global}
-use Rattle.edn.specs.Value.{nil, int, text, keyword, vector, pairs, none, more, joined}
-use Rattle.edn.specs.View.{value_of, values_of, entries_of}
-use Rattle.edn.specs.declared.value.Edn.{Edn, Nil, Int, Str, Keyword, Vector, Map, the_lemmas}
+use Rattle.edn_values.specs.Value.{nil, int, text, keyword, vector, pairs, none, more, joined}
+use Rattle.edn_values.specs.View.{value_of, values_of, entries_of}
+use Rattle.edn_values.specs.declared.value.Edn.{Edn, Nil, Int, Str, Keyword, Vector, Map, the_lemmas}
 
 pub view-Vector : (v : Vec Edn Global) → value_of (Vector v) ≡ vector (values_of v.items)
 view-Vector v = search (rules, the_lemmas)

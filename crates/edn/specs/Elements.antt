@@ -1,19 +1,19 @@
--- Promise: a text of which elements are given one after the other
+-- Promise: a text whose elements are returned one after the other
 use Rattle.std.specs.Prelude.{◌≡◌, ℕ, ◌+◌, List}
-use Rattle.edn.specs.Value.{Value, Values, none, more, joined}
+use Rattle.edn_values.specs.Value.{Value, Values, none, more, joined}
 use Rattle.edn.specs.Text.{SkipsGap, Reads, IsText}
 
--- the whole input, and what is left of it behind the elements that were given
+-- the whole input, and the rest of it after the elements that were returned
 pub record Reading : Type 0 where
   pub bytes : List ℕ
   pub left : List ℕ
 
--- the bytes are a text exactly if left is one, and then of the values that were given and behind them those of left
+-- the bytes are a text if and only if left is one. The elements of the bytes are then the returned ones, followed by those of left
 pub record IsLeftBehind (bytes : List ℕ) (given : Values) (left : List ℕ) : Type 0 where
   pub sound : (values : Values) → IsText left values → IsText bytes (joined given values)
   pub complete : (values : Values) → IsText bytes values → (others : Values) × (values ≡ joined given others) × IsText left others
 
--- the text begins with a gap, and behind it an element of this value, and rest follows it
+-- the text begins with a gap, then comes an element of this value, and rest follows the element
 abbrev pub IsNextAt : List ℕ → Value → List ℕ → Type 0
 IsNextAt text v rest = (u : List ℕ) × SkipsGap 0 text u × Reads 0 u v rest
 

@@ -1,6 +1,6 @@
--- Promise: refusals, their numbers, their names, and why nothing was read
+-- Promise: refusals, their numbers, their names, and the reasons why nothing was read
 use Rattle.std.specs.Prelude.{ℕ, List, codes}
-use Rattle.edn.specs.Value.{Values}
+use Rattle.edn_values.specs.Value.{Values}
 use Rattle.edn.specs.Text.{IsText, IsLongestTextPrefix}
 use Rattle.edn.specs.declared.refusal.Refusal.{Refusal}
 use Rattle.edn.specs.declared.refusal.Refusal.TheVariants.{Busy, WrongProcess, NotOpen, Mismatch, BadValue, BadIndex, HistoryFull, NoSuchIndex, BadBudget, BadConcurrency, Unreadable, TapeFull, NoMemory, Idle, NotServed, AlreadyServed, Stale, NoSuchReplica, NoSeat, ReadFailed, WriteFailed, TooLong}
@@ -53,8 +53,8 @@ name_of ReadFailed = codes "ReadFailed"
 name_of WriteFailed = codes "WriteFailed"
 name_of TooLong = codes "TooLong"
 
--- the bytes are not a text, and the place is the length of the longest prefix that is one; or memory ran out. A reader is refused for no
--- other reason.
+-- a reader has two refusals. Unreadable: the bytes are not a text, and the place is the length of the longest prefix that is a text.
+-- NoMemory: memory ran out
 abbrev pub IsWhy : List ℕ → Refusal → Type 0
 IsWhy bytes Busy = ⊥
 IsWhy bytes WrongProcess = ⊥

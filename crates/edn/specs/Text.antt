@@ -1,17 +1,17 @@
--- Promise: the grammar of texts. Each relation is between a text and the rest of it. `Reads open text value rest` says that the text begins
--- with an element of this value, and that rest follows it, while `open` collections are open. So what may follow an atom, and if the
--- text ends, are facts of rest.
+-- Promise: the grammar of texts. Each relation connects a text with the rest of it. `Reads open text value rest` says that the text begins
+-- with an element of this value inside `open` open collections, and that rest follows the element. So facts about rest decide what may
+-- follow an atom, and whether the text ends
 use Rattle.std.specs.Prelude.{◌≡◌, ℕ, ◌+◌, ◌<◌, ◌≤◌, IsTrue, IsUtf8, List, [], ◌∷◌, ◌++◌, length, take}
-use Rattle.edn.specs.Value.{Value, text, vector, pairs, members, Values, none, more, Pairs, in_text, keys, AreDistinct}
+use Rattle.edn_values.specs.Value.{Value, text, vector, pairs, members, Values, none, more, Pairs, in_text, keys, AreDistinct}
 use Rattle.edn.specs.Bytes.{is_white, MayFollowAtom, IsAtom, SpellsByte}
 
--- up to, and not with, the next line feed (10) or the end of the text
+-- the text before and after the bytes up to the next line feed (10), which stays, or up to the end
 pub data SkipsLine : List ℕ → List ℕ → Type 0 where
   at_end : SkipsLine [] []
   at_line_feed : {t : List ℕ} → SkipsLine (10 ∷ t) (10 ∷ t)
   over : {b : ℕ} {t r : List ℕ} → ¬ (b ≡ 10) → SkipsLine t r → SkipsLine (b ∷ t) r
 
--- the text behind the opening quote of a string, up to the closing quote, and the bytes that it spells
+-- the text after the opening quote of a string, the bytes that the string spells, and the text after the closing quote
 pub data ReadsString : List ℕ → List ℕ → List ℕ → Type 0 where
   closing : {r : List ℕ} → ReadsString (34 ∷ r) [] r
   one_byte : {b : ℕ} {t u s r : List ℕ} → SpellsByte t b u → ReadsString u s r → ReadsString t (b ∷ s) r
@@ -24,8 +24,8 @@ mutual
     comment : {d : ℕ} {t u r : List ℕ} → SkipsLine t u → SkipsGap d u r → SkipsGap d (59 ∷ t) r
     discard : {d : ℕ} {t u w r : List ℕ} {v : Value} → SkipsGap d t u → Reads d u v w → SkipsGap d w r → SkipsGap d (35 ∷ 95 ∷ t) r
 
-  -- one element: an atom; a string in quotes, whose bytes are UTF-8; a vector in [ ] (91 93); a map in { } (123 125),
-  -- whose keys are distinct; a set in #{ } (35 before 123), whose members are
+  -- one element: an atom; a string in quotes, whose bytes are UTF-8; a vector in [ ] (91 93); a map in { } (123 125), whose keys are
+  -- distinct; a set in #{ } (35 before 123), whose members are distinct
   pub data Reads : ℕ → List ℕ → Value → List ℕ → Type 0 where
     atom : {d : ℕ} {t r a : List ℕ} {v : Value} → IsAtom a v → MayFollowAtom r → t ≡ a ++ r → Reads d t v r
     in_quotes : {d : ℕ} {t s r : List ℕ} → ReadsString t s r → IsUtf8 s → Reads d (34 ∷ t) (text s) r

@@ -1,18 +1,18 @@
-//! Atoms: `nil`, booleans, integers and keywords, which end where the next byte says so.
+//! Atoms: `nil`, booleans, integers and keywords. The byte after an atom decides whether the atom ends there.
 
 ghost use Rattle.std.specs.Prelude.{◌≡◌, ◌↔◌, ℕ, ◌≤◌, ◌^◌, ◌++◌, ◌∷◌, List, pos, neg_ℤ, IsTrue, IfOk, IfSome, IfNone};
-ghost use Rattle.edn.specs.Value.{Value, keyword};
-ghost use Rattle.edn.specs.View.{value_of};
+ghost use Rattle.edn_values.specs.Value.{Value, keyword};
+ghost use Rattle.edn_values.specs.View.{value_of};
 ghost use Rattle.edn.specs.Bytes.{MayFollowAtom, IsAtom, IsKeywordText, ends_atom, is_digit, is_letter, goes_on};
 ghost use Rattle.edn.specs.Longest.{IsLongest, HasNone, IsWord, IsName, GoesOn, IsNumeralOf, TakesDigit, TakesOffPlus, atom_value};
 ghost use Rattle.edn.specs.Reading.{OnUnreadable, IsToken};
 
 use crate::gap::after;
 use crate::read_error::ReadError;
-use crate::value::Edn;
+use edn_values::Edn;
 use std::alloc::Global;
 
-/// An atom, as it stands in its text.
+/// An atom, as its text spells it.
 #[derive(Clone, Copy)]
 pub enum Atom<'a> {
     Nil,
@@ -30,7 +30,7 @@ fn ends_atom(b: u8) -> bool
     )
 }
 
-/// The bytes up to the first that ends an atom, and the rest.
+/// Returns the bytes before the first byte that ends an atom, and the rest of `text`.
 pub fn token(text: &[u8]) -> (&[u8], &[u8])
     ensures whole { text.now ≡ result.0.now ++ result.1.now }
     ensures inside { IsToken result.0.now }
@@ -49,7 +49,8 @@ fn is_digit(b: u8) -> bool
     b.is_ascii_digit()
 }
 
-// The number with the digit at the front added to it, and what follows that digit, if the sum is at most `most`.
+// Returns `value` with the first digit of `text` written after it, and the text after that digit. `None` if there is no digit or the number
+// exceeds `most`.
 fn with_digit(value: u64, text: &[u8], most: u64) -> Option<(u64, &[u8])>
     requires { 9 ≤ most }
     ensures found { IfSome result (λ x. TakesDigit most value text.now x.0 x.1.now) }
@@ -66,7 +67,7 @@ fn with_digit(value: u64, text: &[u8], most: u64) -> Option<(u64, &[u8])>
     Some((10 * value + digit, rest))
 }
 
-// The value of the longest numeral of at most `most` at the front, and what follows it.
+// Returns the value of the longest prefix of `text` that is a numeral of at most `most`, and the rest of `text`. `None` if there is none.
 fn longest_numeral(text: &[u8], most: u64) -> Option<(u64, &[u8])>
     requires { 9 ≤ most }
     ensures found { IfSome result (λ x. IsLongest (IsNumeralOf most) text.now x.0 x.1.now) }
@@ -83,7 +84,7 @@ fn longest_numeral(text: &[u8], most: u64) -> Option<(u64, &[u8])>
     Some((value, rest))
 }
 
-// The integer below 0 of this size, or 0.
+// Returns the integer `-size`.
 fn negated(size: u64) -> i64
     requires { size ≤ 2 ^ 63 }
     ensures { result ≡ neg_ℤ (pos size) }
@@ -107,7 +108,7 @@ fn goes_on(b: u8) -> bool
     is_letter(b) || is_digit(b) || matches!(b, b'-' | b'_' | b'?' | b'!' | b'*' | b'.')
 }
 
-// The rest after a byte that continues a name.
+// Returns the rest of `text` after its first byte, if a keyword's name may continue with this byte.
 fn after_name_byte(text: &[u8]) -> Option<&[u8]>
     ensures found { IfSome result (λ rest. GoesOn text.now rest.now) }
     ensures none { IfNone result ((t : List ℕ) → ¬ GoesOn text.now t) }
@@ -116,7 +117,7 @@ fn after_name_byte(text: &[u8]) -> Option<&[u8]>
     if goes_on(*first) { Some(rest) } else { None }
 }
 
-// The longest name of a keyword at the front, and what follows it.
+// Returns the longest prefix of `text` that is a keyword's name, and the rest of `text`; `None` if there is none.
 fn longest_name(text: &[u8]) -> Option<(&[u8], &[u8])>
     ensures found { IfSome result (λ x. IsLongest IsName text.now x.0.now x.1.now) }
     ensures none { IfNone result (HasNone IsName text.now) }
@@ -131,7 +132,8 @@ fn longest_name(text: &[u8]) -> Option<(&[u8], &[u8])>
     Some(text.split_at(text.len() - rest.len()))
 }
 
-/// Whether the bytes are a keyword's name: an ASCII letter, then ASCII letters, digits and `-`, `_`, `?`, `!`, `*`, `.`. Costs O(bytes).
+/// Returns whether the bytes are a keyword's name: an ASCII letter, then ASCII letters, digits and `-`, `_`, `?`, `!`, `*`, `.`. Costs
+/// O(bytes).
 pub fn is_keyword_name(bytes: &[u8]) -> bool
     ensures { IsTrue result ↔ IsKeywordText bytes.now }
 {
@@ -141,7 +143,7 @@ pub fn is_keyword_name(bytes: &[u8]) -> bool
     }
 }
 
-// The rest after this byte and these others, if the text begins with them.
+// Returns the rest of `text` after `first` and `others`, if `text` begins with these bytes.
 fn after_name<'a>(text: &'a [u8], first: u8, others: &[u8]) -> Option<&'a [u8]>
     ensures found { IfSome result (λ rest. text.now ≡ first ∷ others.now ++ rest.now) }
     ensures none { IfNone result ((t : List ℕ) → text.now ≡ first ∷ others.now ++ t → ⊥) }
@@ -150,7 +152,7 @@ fn after_name<'a>(text: &'a [u8], first: u8, others: &[u8]) -> Option<&'a [u8]>
     inner.strip_prefix(others)
 }
 
-// `nil`, `true` or `false` at the front, and what follows it.
+// Returns `nil`, `true` or `false`, if `text` begins with this word, and the rest of `text`.
 fn word_at(text: &[u8]) -> Option<(Atom<'_>, &[u8])>
     ensures found { IfSome result (λ x. IsLongest IsWord text.now (atom_value x.0) x.1.now) }
     ensures none { IfNone result (HasNone IsWord text.now) }
@@ -165,7 +167,7 @@ fn word_at(text: &[u8]) -> Option<(Atom<'_>, &[u8])>
     Some((Atom::Bool(false), rest))
 }
 
-// The text, or what follows the plus at its front.
+// Returns `text` without the plus at its beginning, if it begins with one.
 fn without_plus(text: &[u8]) -> &[u8]
     ensures { TakesOffPlus text.now result.now }
 {
@@ -175,7 +177,7 @@ fn without_plus(text: &[u8]) -> &[u8]
     }
 }
 
-/// The longest atom that is a prefix of the text, and the rest of the text; `None` if no prefix is an atom.
+/// Returns the longest atom that is a prefix of the text, and the rest of the text; `None` if no prefix is an atom.
 pub fn longest_atom(text: &[u8]) -> Option<(Atom<'_>, &[u8])>
     ensures found { IfSome result (λ x. IsLongest IsAtom text.now (atom_value x.0) x.1.now) }
     ensures none { IfNone result (HasNone IsAtom text.now) }
@@ -188,7 +190,7 @@ pub fn longest_atom(text: &[u8]) -> Option<(Atom<'_>, &[u8])>
         return Some((Atom::Keyword(name), rest));
     }
     if let Some(digits) = after(text, b'-') {
-        // The least integer is one further from 0 than the greatest.
+        // The absolute value of the least integer is the greatest integer plus one.
         let (size, rest) = longest_numeral(digits, 1 << 63)?;
         return Some((Atom::Int(negated(size)), rest));
     }
@@ -205,7 +207,8 @@ fn keyword_of(alloc: Global, name: &[u8]) -> Result<Edn, ReadError>
     Ok(Edn::Keyword(String::from_str(alloc, text)?))
 }
 
-/// The value of a whole token. [`ReadError::Unreadable`] if it is not an atom, [`ReadError::NoMemory`] if an allocation fails.
+/// Returns the value of a whole token. [`ReadError::Unreadable`] if the token is not an atom, [`ReadError::NoMemory`] if an allocation
+/// fails.
 pub fn atom_of(alloc: Global, token: &[u8]) -> Result<Edn, ReadError>
     ensures ok { IfOk result (λ e. IsAtom token.now (value_of e)) }
     ensures unreadable { OnUnreadable result ((v : Value) → ¬ IsAtom token.now v) }

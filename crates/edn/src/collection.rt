@@ -1,16 +1,15 @@
-//! Maps and sets of the elements that stand in their text.
+//! Maps and sets, made of the elements in their text.
 
 ghost use Rattle.std.specs.Prelude.{◌≡◌, IfOk};
-ghost use Rattle.edn.specs.Value.{Pairs, pairs, members, in_text, AreDistinct};
+ghost use Rattle.edn_values.specs.Value.{Pairs, pairs, members, in_text, AreDistinct};
 ghost use Rattle.edn.specs.Reading.{OnUnreadable, IsMapOf};
-ghost use Rattle.edn.specs.View.{value_of, values_of, entries_of};
+ghost use Rattle.edn_values.specs.View.{value_of, values_of, entries_of};
 
-use crate::distinct::are_distinct;
 use crate::read_error::ReadError;
-use crate::value::Edn;
+use edn_values::{Edn, are_distinct};
 use std::alloc::Global;
 
-// The elements two by two.
+// Returns the elements as pairs: the first with the second, and so on. `Unreadable` if their number is odd.
 fn paired(alloc: Global, found: Vec<Edn>) -> Result<Vec<(Edn, Edn)>, ReadError>
     ensures ok { IfOk result (λ v. values_of found.items ≡ in_text (entries_of v.items)) }
     ensures unreadable { OnUnreadable result
@@ -27,7 +26,8 @@ fn paired(alloc: Global, found: Vec<Edn>) -> Result<Vec<(Edn, Edn)>, ReadError>
     Ok(pairs)
 }
 
-/// The map whose keys and values these are in turn, if each key has a value and none is repeated. Costs what [`are_distinct`] costs.
+/// Returns the map whose keys and values alternate in `found`. `Unreadable` if a key has no value or a key is repeated. Costs what
+/// [`are_distinct`] costs.
 pub fn map_of(alloc: Global, found: Vec<Edn>) -> Result<Edn, ReadError>
     ensures ok { IfOk result
         (λ e. (ps : Pairs) × (value_of e ≡ pairs ps) × IsMapOf (values_of found.items) ps) }
@@ -42,7 +42,7 @@ pub fn map_of(alloc: Global, found: Vec<Edn>) -> Result<Edn, ReadError>
     Ok(Edn::Map(pairs))
 }
 
-/// The set of these members, if none is repeated. Costs what [`are_distinct`] costs.
+/// Returns the set of the members in `found`. `Unreadable` if a member is repeated. Costs what [`are_distinct`] costs.
 pub fn set_of(alloc: Global, found: Vec<Edn>) -> Result<Edn, ReadError>
     ensures ok { IfOk result (λ e. value_of e ≡ members (values_of found.items)) }
     ensures distinct { IfOk result (λ e. AreDistinct (values_of found.items)) }

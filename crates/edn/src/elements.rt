@@ -1,22 +1,23 @@
 //! The elements of a text, one after the other.
 
 ghost use Rattle.std.specs.Prelude.{◌≡◌, ◌<◌, [], length, option_map, IfOk, IfErr, IfSome, IfNone, OnErr};
-ghost use Rattle.edn.specs.Value.{Value, Values, none, more, joined};
+ghost use Rattle.edn_values.specs.Value.{Value, Values, none, more, joined};
 ghost use Rattle.edn.specs.Text.{IsText};
 ghost use Rattle.edn.specs.Elements.{Reading, IsLeftBehind, IsNextAt, count_of};
 ghost use Rattle.edn.specs.Reading.{FindsNext};
 ghost use Rattle.edn.specs.Refusals.{IsWhy};
-ghost use Rattle.edn.specs.View.{value_of};
+ghost use Rattle.edn_values.specs.View.{value_of};
 
 use crate::longest_front::unreadable;
 use crate::read_error::ReadError;
 use crate::reader::{discarded, next_element};
 use crate::refusal::Refusal;
-use crate::value::Edn;
+use edn_values::Edn;
 use std::alloc::Global;
 use std::marker::Model;
 
-/// The elements of a text, one after the other, as [`read_all`](crate::read_all) gives them. Only the one being read takes memory.
+/// The elements of a text, one after the other, as [`read_all`](crate::read_all) returns them. Only the element that is being read takes
+/// memory.
 #[derive(Drop)]
 pub struct Elements<'a> {
     bytes: &'a [u8],
@@ -32,7 +33,7 @@ impl<'a> Model for Elements<'a> {
 }
 
 impl<'a> Elements<'a> {
-    /// Reads nothing yet.
+    /// Returns the elements of `bytes`. Reads nothing yet.
     pub fn new(bytes: &'a [u8]) -> Self
         ensures bytes { result.bytes ≡ bytes.now }
         ensures left { result.left ≡ bytes.now }
@@ -41,12 +42,13 @@ impl<'a> Elements<'a> {
         Elements { bytes, rest: bytes }
     }
 
-    /// The next element, or none at the end of the text. Costs one pass over the element and the gap before it, two over a refused input,
-    /// and the search for repeated keys and members.
+    /// Returns the next element, or `None` at the end of the text. Costs one pass over the element and the gap before it, two passes over a
+    /// refused input, and the search for repeated keys and members.
     ///
     /// # Errors
-    /// [`Refusal::Unreadable`] as by [`read_all`](crate::read_all), at the latest where the next element or the end should be, and then at
-    /// each further call. [`Refusal::NoMemory`] if an allocation fails; the element can be asked for again.
+    /// [`Refusal::Unreadable`] if `bytes` are not a text, with the place that [`read_all`](crate::read_all) reports. At the latest, the
+    /// call that reaches that place returns this error. Each further call then returns it too. [`Refusal::NoMemory`] if an allocation
+    /// fails; a further call returns the element.
     pub fn next(&mut self, alloc: Global) -> Result<Option<Edn>, Refusal>
         ensures bytes { self.new.bytes ≡ self.old.bytes }
         ensures given { IfOk result (λ found. IfSome found (λ e. (given : Values)
@@ -64,14 +66,15 @@ impl<'a> Elements<'a> {
         Ok(found)
     }
 
-    /// The rest behind the elements that were given: a gap, the next element, and so on.
+    /// Returns the rest of the input after the elements that were returned: a gap, the next element, and so on.
     pub fn left(&self) -> &'a [u8]
         ensures { result.now ≡ self.now.left }
     {
         self.rest
     }
 
-    /// Passes over the next element, which the caller has read from [`left`](Elements::left): rest follows it. Takes constant time.
+    /// Skips the next element, which the caller has read from [`left`](Elements::left). `rest` is the input after this element. Takes
+    /// constant time.
     pub fn pass_to(&mut self, rest: &'a [u8])
         requires { (v : Value) × IsNextAt self.old.left v rest.now }
         ensures bytes { self.new.bytes ≡ self.old.bytes }
@@ -85,7 +88,7 @@ impl<'a> Elements<'a> {
     }
 }
 
-// The next element of the input, and what is left behind it; or none and nothing.
+// Returns the next element of `rest`, and the rest after it; or `None` and no bytes at the end.
 fn found_in<'a>(
     alloc: Global,
     bytes: &[u8],
@@ -108,8 +111,8 @@ fn found_in<'a>(
     }
 }
 
-/// The number of elements of a text. If there is no error, [`Elements`] gives each element and refuses no place. Errors and cost are those
-/// of [`read_all`](crate::read_all).
+/// Returns the number of elements of a text. If there is no error, [`Elements`] returns each element and never reports `Unreadable`. Errors
+/// and cost are those of [`read_all`](crate::read_all).
 pub fn check_text(alloc: Global, bytes: &[u8]) -> Result<usize, Refusal>
     ensures read { IfOk result (λ count. (values : Values) × IsText bytes.now values
         × (count ≡ count_of values)) }

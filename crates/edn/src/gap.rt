@@ -11,7 +11,7 @@ fn is_white(b: u8) -> bool
     matches!(b, b' ' | b'\t' | b'\n' | b'\r' | b',')
 }
 
-/// The rest after the byte, if the text begins with it.
+/// Returns the rest of `text` after `byte`, if `text` begins with it.
 pub fn after(text: &[u8], byte: u8) -> Option<&[u8]>
     ensures found { IfSome result (λ rest. text.now ≡ byte ∷ rest.now) }
     ensures none { IfNone result ((t : List ℕ) → text.now ≡ byte ∷ t → ⊥) }
@@ -20,7 +20,7 @@ pub fn after(text: &[u8], byte: u8) -> Option<&[u8]>
     if *first == byte { Some(rest) } else { None }
 }
 
-/// The rest after a byte of white space at the beginning.
+/// Returns the rest of `text` after its first byte, if this byte is white space.
 pub fn after_white(text: &[u8]) -> Option<&[u8]>
     ensures found { IfSome result
         (λ rest. (b : ℕ) × (text.now ≡ b ∷ rest.now) × (is_white b ≡ true)) }
@@ -30,7 +30,7 @@ pub fn after_white(text: &[u8]) -> Option<&[u8]>
     if is_white(*first) { Some(rest) } else { None }
 }
 
-/// The rest after the two bytes that begin a discard.
+/// Returns the rest of `text` after `#_`, if `text` begins with these two bytes.
 pub fn after_discard(text: &[u8]) -> Option<&[u8]>
     ensures found { IfSome result (λ rest. text.now ≡ 35 ∷ 95 ∷ rest.now) }
     ensures none { IfNone result ((t : List ℕ) → text.now ≡ 35 ∷ 95 ∷ t → ⊥) }
@@ -38,7 +38,7 @@ pub fn after_discard(text: &[u8]) -> Option<&[u8]>
     after(after(text, b'#')?, b'_')
 }
 
-/// The rest after the two bytes that open a set.
+/// Returns the rest of `text` after `#{`, if `text` begins with these two bytes.
 pub fn after_set_opening(text: &[u8]) -> Option<&[u8]>
     ensures found { IfSome result (λ rest. text.now ≡ 35 ∷ 123 ∷ rest.now) }
     ensures none { IfNone result ((t : List ℕ) → text.now ≡ 35 ∷ 123 ∷ t → ⊥) }
@@ -46,7 +46,7 @@ pub fn after_set_opening(text: &[u8]) -> Option<&[u8]>
     after(after(text, b'#')?, b'{')
 }
 
-/// The rest of the text from the end of the line on.
+/// Returns the rest of `text` from the next line feed on, or no bytes if there is no line feed.
 pub fn line_end(text: &[u8]) -> &[u8]
     ensures { SkipsLine text.now result.now }
 {
@@ -60,7 +60,7 @@ pub fn line_end(text: &[u8]) -> &[u8]
     rest
 }
 
-/// Whether the text or a collection ends here.
+/// Returns whether the text or a collection ends at the beginning of `text`.
 pub fn closes(text: &[u8]) -> bool
     ensures { result ≡ closes text.now }
 {

@@ -1,14 +1,14 @@
-/// A listener that is called at the begin and the end of each piece of work, with the piece's number. A test holds pieces with it, and so sees
-/// that two run at once.
+/// A listener that is called at the beginning and the end of each piece of work, with the number of the piece. A test uses it to hold
+/// pieces, so that two of them run at once.
 pub trait Gate {
-    /// The piece at this place begins.
+    /// Is called when the piece with the number `place` begins.
     fn begin(&self, place: u32);
 
-    /// The piece at this place has ended, with or without an error.
+    /// Is called when the piece with the number `place` has ended, with or without an error.
     fn end(&self, place: u32);
 }
 
-/// The gate that lets each piece pass at once.
+/// A gate that lets each piece pass at once.
 #[derive(Clone, Copy, Debug)]
 pub struct OpenGate;
 

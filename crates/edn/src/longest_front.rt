@@ -1,7 +1,7 @@
-//! How far an unreadable input is a text.
+//! The longest prefix of an unreadable input that is a text.
 
 ghost use Rattle.std.specs.Prelude.{IfOk};
-ghost use Rattle.edn.specs.Value.{Values};
+ghost use Rattle.edn_values.specs.Value.{Values};
 ghost use Rattle.edn.specs.Refusals.{IsWhy};
 ghost use Rattle.edn.specs.Text.{IsText, IsLongestTextPrefix};
 ghost use Rattle.edn.specs.Reading.{OnUnreadable};
@@ -13,7 +13,7 @@ use crate::reader::{discarded, element};
 use crate::refusal::Refusal;
 use std::alloc::Global;
 
-// The length of the longest prefix that is a text, in one pass over the bytes.
+// Returns the length of the longest prefix that is a text, in one pass over the bytes.
 fn place_of(alloc: Global, bytes: &[u8]) -> Result<usize, ReadError>
     ensures ok { IfOk result (λ n. IsLongestTextPrefix bytes.now n) }
     ensures never { OnUnreadable result ⊥ }
@@ -58,7 +58,8 @@ fn place_of(alloc: Global, bytes: &[u8]) -> Result<usize, ReadError>
     Ok(best)
 }
 
-/// Why an invalid input is refused: [`Refusal::Unreadable`] with the length of its longest prefix that is a text, or out of memory.
+/// Returns the refusal of an input that is not a text. It is [`Refusal::Unreadable`] with the length of the longest prefix that is a text,
+/// or [`Refusal::NoMemory`] if an allocation fails.
 pub fn unreadable(alloc: Global, bytes: &[u8]) -> Refusal
     requires { (values : Values) → IsText bytes.now values → ⊥ }
     ensures { IsWhy bytes.now result }

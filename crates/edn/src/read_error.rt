@@ -3,7 +3,7 @@ ghost use Rattle.edn.specs.declared.read_error.ReadError.TheVariants.{NoMemory};
 
 use std::alloc::{AllocError, AllocFailed};
 
-/// Why a part of a text was not read, before the place is known.
+/// The reason why a part of a text was not read. The place of the error is not known yet.
 #[derive(Debug, Drop)]
 pub enum ReadError {
     Unreadable,

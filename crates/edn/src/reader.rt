@@ -1,8 +1,8 @@
-//! The reader: functions from a text to the element at its beginning and the rest of it.
+//! The reader: functions that take a text, and return the element at its beginning and the rest of the text.
 
 ghost use Rattle.std.specs.Prelude.{◌≡◌, ℕ, List, [], ◌∷◌, true, option_map, IfOk, IfErr};
-ghost use Rattle.edn.specs.Value.{Values};
-ghost use Rattle.edn.specs.View.{value_of, values_of};
+ghost use Rattle.edn_values.specs.Value.{Values};
+ghost use Rattle.edn_values.specs.View.{value_of, values_of};
 ghost use Rattle.edn.specs.Refusals.{IsWhy};
 ghost use Rattle.edn.specs.Text.{Reads, ReadsAll, IsText};
 ghost use Rattle.edn.specs.Reading.{OnUnreadable, HasNoElement, HasNoInside, FindsNext, ReadsCollection, closes};
@@ -14,19 +14,21 @@ use crate::longest_front::unreadable;
 use crate::read_error::ReadError;
 use crate::refusal::Refusal;
 use crate::string::string_of;
-use crate::value::Edn;
+use edn_values::Edn;
 use std::alloc::Global;
 
-/// The most collections that may be open at once, so that reading and dropping need little stack.
+/// The maximum number of open collections. It limits the stack that reading and dropping need.
 pub const MAX_OPEN: u8 = 32;
 
-// The number of elements of a collection for which room is made at once.
+// The number of elements for which a new collection reserves room.
 const ROOM: usize = 10;
 
-/// Drops an element. Dropped in a larger function, an enum gives that function's goals once for each variant.
+/// Drops an element. A function of its own keeps the proof small: an enum that is dropped in a larger function repeats its goals for each
+/// variant.
 pub fn discarded(_value: Edn) {}
 
-/// The element at the front, and the rest. [`ReadError::Unreadable`] if there is none with `depth` collections open.
+/// Returns the element at the beginning of `text`, and the rest of `text`. [`ReadError::Unreadable`] if `text` does not begin with an
+/// element inside `depth` open collections.
 #[cycle(reader)]
 pub fn element(alloc: Global, depth: u8, text: &[u8]) -> Result<(Edn, &[u8]), ReadError>
     ensures ok { IfOk result (λ x. Reads depth text.now (value_of x.0) x.1.now) }
@@ -55,7 +57,7 @@ pub fn element(alloc: Global, depth: u8, text: &[u8]) -> Result<(Edn, &[u8]), Re
     Ok((atom, rest))
 }
 
-// The elements of a collection behind its opening, and what follows the byte that closes it.
+// Returns the elements of a collection whose opening was read, and the rest of `text` after `close`, the byte that closes it.
 #[cycle(reader)]
 fn collection(
     alloc: Global,
@@ -79,7 +81,7 @@ fn collection(
     }
 }
 
-// The elements at the front, up to the end of the text or of a collection, and what follows them.
+// Returns the elements at the beginning of `text`, up to the end of the text or of a collection, and the rest of `text`.
 #[cycle(reader)]
 fn inside(alloc: Global, depth: u8, text: &[u8]) -> Result<(Vec<Edn>, &[u8]), ReadError>
     ensures ok { IfOk result (λ x. ReadsAll depth text.now (values_of x.0.items) x.1.now) }
@@ -98,7 +100,8 @@ fn inside(alloc: Global, depth: u8, text: &[u8]) -> Result<(Vec<Edn>, &[u8]), Re
     }
 }
 
-/// The next element behind a gap, and the rest; or none at an end. [`ReadError::Unreadable`] if neither is there.
+/// Returns the next element after a gap, or `None` at the end of the text or of a collection, and the rest of `text`.
+/// [`ReadError::Unreadable`] if there is neither an element nor an end.
 #[cycle(reader)]
 pub fn next_element(
     alloc: Global,
@@ -149,7 +152,8 @@ fn text_of(alloc: Global, bytes: &[u8]) -> Result<Vec<Edn>, ReadError>
 /// The elements of a text, in order. A text is a profile of EDN: `nil`, `true`, `false`, integers of 64 bits, keywords without a namespace,
 /// strings, vectors, maps and sets. At most 32 collections are open at once. White space, comments and discards may come between elements.
 /// The keys of a map and the members of a set are distinct by [`same`](crate::same). Costs one pass over the input, two if it is
-/// refused. The search for repeated keys and members costs O(n log n) for n atoms and strings, and O(m n) for m collections among them.
+/// refused. The search for repeated keys and members costs O(n log n) for the n atoms and bytes inside a collection, once for each level at
+/// most.
 ///
 /// # Errors
 /// [`Refusal::Unreadable`] with the length in bytes of the longest prefix that is a text; [`Refusal::NoMemory`] if an allocation fails.

@@ -5,7 +5,7 @@ ghost use Rattle.edn.specs.declared.refusal.Refusal.TheVariants.{NoMemory};
 use std::alloc::{AllocError, AllocFailed};
 use thiserror::Error;
 
-/// Why a call was refused. Its [`number`](Refusal::number) and [`name`](Refusal::name) are what refusal lines print.
+/// The reason why a call was refused. Refusal lines print its [`number`](Refusal::number) and its [`name`](Refusal::name).
 #[derive(Clone, Copy, Debug, PartialEq, Eq, Error)]
 pub enum Refusal {
     #[error("the process, or the drawing thread, has an open operation")]
@@ -16,32 +16,32 @@ pub enum Refusal {
     NotOpen,
     #[error("the completion differs from its invocation")]
     Mismatch,
-    #[error("a value outside the tables of events and commands")]
+    #[error("a value is outside the tables of events and commands")]
     BadValue,
     #[error("the stated index is not the length of the history")]
     BadIndex,
     #[error("the history is full")]
     HistoryFull,
-    #[error("a rewind to more than the length")]
+    #[error("a rewind to more events than the history has")]
     NoSuchIndex,
     #[error("the budget is outside its limits")]
     BadBudget,
     #[error("the concurrency is outside its limits")]
     BadConcurrency,
     /// The length in bytes of the longest prefix of the input that is a text.
-    #[error("the longest front of the input that is a text has {0} bytes")]
+    #[error("the longest prefix of the input that is a text has {0} bytes")]
     Unreadable(usize),
-    #[error("the tape or its tickets are full")]
+    #[error("the tape or the list of its tickets is full")]
     TapeFull,
-    #[error("a growth in memory was refused")]
+    #[error("an allocation failed")]
     NoMemory,
     #[error("no fault is due")]
     Idle,
     #[error("the ticket was not served")]
     NotServed,
-    #[error("the ticket was served already")]
+    #[error("the ticket was already served")]
     AlreadyServed,
-    #[error("there is no such ticket, or its invocation was cut off")]
+    #[error("there is no such ticket, or a rewind removed its invocation")]
     Stale,
     #[error("there is no such replica")]
     NoSuchReplica,
@@ -56,7 +56,7 @@ pub enum Refusal {
 }
 
 impl Refusal {
-    /// The number of the refusal, 1 to 22.
+    /// Returns the number of the refusal, 1 to 22.
     pub fn number(&self) -> u8
         ensures { result ≡ number_of self.now }
     {
@@ -86,7 +86,7 @@ impl Refusal {
         }
     }
 
-    /// The name of the refusal, as it is spelled here, without a place.
+    /// Returns the name of the refusal: the name of its variant, without a place.
     pub fn name(&self) -> &'static str
         ensures { result.now ≡ name_of self.now }
     {

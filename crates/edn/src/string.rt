@@ -8,7 +8,7 @@ use crate::gap::after;
 use crate::read_error::ReadError;
 use std::alloc::Global;
 
-// The byte that a backslash and this letter spell.
+// Returns the byte that a backslash and `letter` spell, if they spell one.
 fn unescaped(letter: u8) -> Option<u8>
     ensures found { IfSome result (IsEscape letter) }
     ensures none { IfNone result ((b : ℕ) → ¬ IsEscape letter b) }
@@ -22,7 +22,7 @@ fn unescaped(letter: u8) -> Option<u8>
     }
 }
 
-// The byte that the inside of a string spells at its beginning, and the rest.
+// Returns the byte that `text`, the inside of a string, spells at its beginning, and the rest of `text`.
 fn next_byte(text: &[u8]) -> Option<(u8, &[u8])>
     ensures found { IfSome result (λ x. SpellsByte text.now x.0 x.1.now) }
     ensures none { IfNone result ((b : ℕ) (t : List ℕ) → ¬ SpellsByte text.now b t) }
@@ -39,7 +39,8 @@ fn next_byte(text: &[u8]) -> Option<(u8, &[u8])>
     Some((byte, behind))
 }
 
-/// The string behind an opening quote, and the rest. [`ReadError::Unreadable`] if there is none or its bytes are not UTF-8.
+/// Returns the string whose opening quote was read, and the rest of `text` after its closing quote. [`ReadError::Unreadable`] if there is
+/// no closing quote or escape, or if the bytes of the string are not UTF-8.
 pub fn string_of(alloc: Global, text: &[u8]) -> Result<(String, &[u8]), ReadError>
     ensures ok { IfOk result (λ x. ReadsString text.now (string_bytes x.0) x.1.now) }
     ensures unreadable { OnUnreadable result

@@ -4,11 +4,11 @@ use Rattle.std.specs.Prelude.{◌==◌}
 use Rattle.std.specs.List.{flat_map}
 use Rattle.std.proofs.lemmas.List.{take_more, flat_map_more}
 use Rattle.std.proofs.lemmas.Bool.{ne_eqb}
-use Rattle.edn.specs.View.{value_of, values_of, entries_of}
+use Rattle.edn_values.specs.View.{value_of, values_of, entries_of}
 use Rattle.edn_writer.specs.Canonical.{spelling, separated_by, canonical, texts_of, pair_texts_of}
 use Rattle.edn_writer.specs.Writing.{BeginsWith, Appends}
 use Rattle.std.specs.Result.{IsErr}
-use Rattle.edn.specs.declared.value.Edn.{Edn}
+use Rattle.edn_values.specs.declared.value.Edn.{Edn}
 
 pub begins_after : (old mid new bytes : List ℕ) → mid ≡ old ++ bytes → BeginsWith mid new → BeginsWith old new
 begins_after old mid new bytes e b = (bytes ++ b.0, b.1 ∙ ap (λ t. t ++ b.0) e ∙ append_assoc old bytes b.0)

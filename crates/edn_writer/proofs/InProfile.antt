@@ -1,7 +1,7 @@
 -- Read elements are in the profile
 use Rattle.std.proofs.Common.{ℕ, zero, suc, ◌^◌, ◌≤◌, pos, List, arith}
 use Rattle.std.specs.Prelude.{neg_ℤ}
-use Rattle.edn.specs.Value.{Value, Values, Pairs, no_pairs, pair, in_text}
+use Rattle.edn_values.specs.Value.{Value, Values, Pairs, no_pairs, pair, in_text}
 use Rattle.edn.specs.Bytes.{IsAtom}
 use Rattle.edn.specs.Bytes.IsAtom.{spelled_nil, spelled_true, spelled_false, plain, plus, minus, named}
 use Rattle.edn.specs.Text.{Reads, ReadsAll, IsText}

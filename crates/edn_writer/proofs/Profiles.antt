@@ -1,13 +1,13 @@
 -- Elements and pairs that were found in the profile one after the other
 use Rattle.std.proofs.Common.{◌≡◌, ℕ, zero, suc, ◌+◌, ◌<◌, ◌≤◌, Bool, false, IsTrue, List, [], ◌∷◌, ◌++◌, refl, sym, ap, ◌∙◌, subst, arith, take, length, get_or}
 use Rattle.std.proofs.lemmas.List.{take_more}
-use Rattle.edn.specs.Value.{Value, Values, none, more, joined, Pairs, no_pairs, pair, pairs, AreDistinct}
+use Rattle.edn_values.specs.Value.{Value, Values, none, more, joined, Pairs, no_pairs, pair, pairs, AreDistinct}
 use Rattle.edn_writer.specs.Profile.{IsInProfileAt, AreInProfileAt, PairsAreInProfileAt}
-use Rattle.edn.specs.View.{value_of, values_of, entries_of}
-use Rattle.edn.specs.declared.value.Edn.{Edn}
-use Rattle.edn.proofs.PairMatching.{linked}
+use Rattle.edn_values.specs.View.{value_of, values_of, entries_of}
+use Rattle.edn_values.specs.declared.value.Edn.{Edn}
+use Rattle.edn_values.proofs.PairMatching.{linked}
 use Rattle.edn.proofs.Views.{values_of-push}
-use Rattle.edn.proofs.Repeats.{keys_in, keys_of_pairs}
+use Rattle.edn_values.proofs.Repeats.{keys_in, keys_of_pairs}
 
 whole : {T : Type 0} (xs : List T) (i : ℕ) → length xs ≤ i → take i xs ≡ xs
 whole [] zero l = refl

@@ -7,7 +7,7 @@ use Rattle.std.specs.Str.Parse.{digits_value}
 use Rattle.std.proofs.lemmas.Fmt.{decimal_is_IsNumeral, decimal_digit, first_decimal, decimal_nonempty}
 use Rattle.std.proofs.lemmas.Str.Parse.{digit_at}
 use Rattle.std.proofs.lemmas.Bool.Decides.{nat_tests}
-use Rattle.edn.specs.Value.{Value, nil, bool, int, text, keyword, vector, pairs, members, Values, none, more, Pairs, no_pairs, pair, in_text}
+use Rattle.edn_values.specs.Value.{Value, nil, bool, int, text, keyword, vector, pairs, members, Values, none, more, Pairs, no_pairs, pair, in_text}
 use Rattle.edn.specs.Bytes.{is_digit, IsNumeral, IsAtom, IsEscape, SpellsByte, MayFollowAtom}
 use Rattle.edn.specs.Bytes.IsAtom.{spelled_nil, spelled_true, spelled_false, plain, minus, named}
 use Rattle.edn.specs.Bytes.IsEscape.{tab, carriage_return, line_feed, backslash, quote}

@@ -2,20 +2,20 @@
 use Rattle.std.specs.Prelude.{ℕ, ◌==◌, true, false, List, [], ◌∷◌, ◌++◌, cond}
 use Rattle.std.specs.List.{flat_map, join_by}
 use Rattle.std.specs.Fmt.{signed_decimal}
-use Rattle.edn.specs.Value.{Value, nil, bool, int, text, keyword, vector, pairs, members, Values, none, more, Pairs, no_pairs, pair}
+use Rattle.edn_values.specs.Value.{Value, nil, bool, int, text, keyword, vector, pairs, members, Values, none, more, Pairs, no_pairs, pair}
 
--- a byte in a string: behind a backslash (92) the letter of its escape if it has one, and as it is if not
+-- a byte in a string: a backslash (92) and the letter of its escape, if it has one, and otherwise the byte itself
 abbrev pub spelling : ℕ → List ℕ
 spelling b =
     cond (b == 9) (92 ∷ 116 ∷ [])
     (cond (b == 13) (92 ∷ 114 ∷ []) (cond (b == 10) (92 ∷ 110 ∷ []) (cond (b == 92) (92 ∷ 92 ∷ []) (cond (b == 34) (92 ∷ 34 ∷ []) (b ∷ [])))))
 
--- the texts in a row, with a separator between each two
+-- the texts one after another, with a separator between each two
 abbrev pub separated_by : List ℕ → List (List ℕ) → List ℕ
 separated_by separator texts = join_by (λ t. t) separator texts
 
--- nil, true and false. Integers are in decimal, without a plus. A string is "...", and a keyword is :name.
--- [a b] and #{a b} have a space between members. {k v, k v} has a space in a pair, and a comma and a space between pairs
+-- nil, true and false. Integers are decimal, without a plus. A string is "...", and a keyword is :name. [a b] and #{a b} have a space
+-- between members. {k v, k v} has a space inside a pair, and a comma and a space between pairs
 abbrev mutual
   pub canonical : Value → List ℕ
   canonical nil = 110 ∷ 105 ∷ 108 ∷ []

@@ -1,6 +1,6 @@
 -- Promise: the values that have a text
 use Rattle.std.specs.Prelude.{ℕ, ◌+◌, ◌<◌, ◌^◌, ℤ, pos, negsuc, IsUtf8}
-use Rattle.edn.specs.Value.{Value, nil, bool, int, text, keyword, vector, pairs, members, Values, none, more, Pairs, no_pairs, pair, keys, AreDistinct}
+use Rattle.edn_values.specs.Value.{Value, nil, bool, int, text, keyword, vector, pairs, members, Values, none, more, Pairs, no_pairs, pair, keys, AreDistinct}
 use Rattle.edn.specs.Bytes.{IsKeywordText}
 
 -- an integer of 64 bits; negsuc n is -(n + 1)
@@ -8,8 +8,8 @@ abbrev pub IsInteger64 : ℤ → Type 0
 IsInteger64 (pos n) = n < 2 ^ 63
 IsInteger64 (negsuc n) = n < 2 ^ 63
 
--- d collections are open round the value. Integers have 64 bits, strings are UTF-8, and keywords have their shape. The keys of a map
--- and the members of a set are distinct, and at most 32 collections are open at once
+-- inside d open collections the value has a text: integers have 64 bits, strings are UTF-8, and keywords have their shape. The keys of a
+-- map and the members of a set are distinct, and at most 32 collections are open at once
 abbrev mutual
   pub IsInProfileAt : ℕ → Value → Type 0
   IsInProfileAt d nil = Unit {0}

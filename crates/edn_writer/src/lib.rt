@@ -1,5 +1,5 @@
-//! The writer of texts: [`in_profile`] says whether an element has a text, and [`write`] appends its canonical one, which
-//! reads as that element.
+//! The writer of texts: [`in_profile`] tests whether an element has a text, and [`write`] appends its canonical text. A reader reads this
+//! text as the same element.
 //!
 //! A call allocates only if its result can be `AllocError`, or a refusal because memory ran out.
 #![tactic(auto)]

@@ -1,23 +1,27 @@
-//! Which elements have a text.
+//! A test whether an element has a text.
 
 ghost use Rattle.std.specs.Prelude.{◌↔◌, IsTrue};
 ghost use Rattle.edn_writer.specs.Profile.{IsInteger64, IsInProfile, IsInProfileAt, AreInProfileAt, PairsAreInProfileAt};
-ghost use Rattle.edn.specs.View.{value_of, values_of, entries_of};
+ghost use Rattle.edn_values.specs.View.{value_of, values_of, entries_of};
 
 use edn::{Edn, MAX_OPEN, all_differ, is_keyword_name};
 
-/// Whether the element has a text. Its keywords have an ASCII letter first and then ASCII letters, digits and `-`, `_`, `?`, `!`, `*` or
-/// `.`. The keys of each map and the members of each set are distinct by [`same`](edn::same), and at most 32 collections are open at once.
-/// Each element that was read has one.
+/// Returns whether `element` has a text. It has one if all of this holds:
 ///
-/// No memory is taken. The time grows with the square of the number of pairs of a map or members of a set.
+/// - Each keyword is an ASCII letter, followed by ASCII letters, digits and `-`, `_`, `?`, `!`, `*` or `.`.
+/// - The keys of each map and the members of each set are distinct by [`same`](edn::same).
+/// - At most 32 collections are open at once.
+///
+/// An element that a reader returned always has a text.
+///
+/// Does not allocate. Costs O(n^2) in the pairs of a map or the members of a set.
 pub fn in_profile(element: &Edn) -> bool
     ensures { IsTrue result ↔ IsInProfile (value_of element.now) }
 {
     in_profile_at(0, element)
 }
 
-// Each number of the type has 64 bits.
+// Returns true, since each number of this type is an integer of 64 bits.
 fn is_integer(number: i64) -> bool
     ensures { IsTrue result ↔ IsInteger64 number }
 {
@@ -25,7 +29,7 @@ fn is_integer(number: i64) -> bool
     true
 }
 
-// The same if `depth` collections are open round the element.
+// Returns whether `element` has a text inside `depth` open collections.
 #[cycle(profile)]
 fn in_profile_at(depth: u8, element: &Edn) -> bool
     ensures { IsTrue result ↔ IsInProfileAt depth (value_of element.now) }

@@ -1,10 +1,11 @@
-//! The writer: each function appends a part of a canonical text. If memory runs out, the appended bytes stay, and [`write`] removes them.
+//! The writer: each function appends a part of a canonical text. If an allocation fails, the appended bytes stay, and [`write`] removes
+//! them.
 
 ghost use Rattle.std.specs.Prelude.{◌≡◌, ◌==◌, [], ◌∷◌, ◌++◌, is_ok, if◌then◌else◌, IfSome, IfNone, IfErr};
 ghost use Rattle.std.specs.Fmt.{signed_decimal};
 ghost use Rattle.std.specs.List.{flat_map};
-ghost use Rattle.edn.specs.Value.{vector, members, pairs};
-ghost use Rattle.edn.specs.View.{value_of, values_of, entries_of};
+ghost use Rattle.edn_values.specs.Value.{vector, members, pairs};
+ghost use Rattle.edn_values.specs.View.{value_of, values_of, entries_of};
 ghost use Rattle.edn_writer.specs.Profile.{IsInProfile};
 ghost use Rattle.edn_writer.specs.Canonical.{spelling, separated_by, canonical, texts_of, pair_texts_of};
 ghost use Rattle.edn_writer.specs.Writing.{Appends};
@@ -14,13 +15,13 @@ use edn::{Edn, Refusal};
 use itoa::Buffer;
 use std::alloc::AllocError;
 
-/// Appends the canonical text of an element, which reads as that element. Integers are in decimal without a plus, strings have an escape
-/// wherever there is one for the byte, and collections are `[a b]`, `#{a b}` and `{k v, k v}`.
+/// Appends the canonical text of an element. A reader reads this text as the same element. Integers are decimal without a plus. Strings use
+/// an escape for each byte that has one. Collections are written as `[a b]`, `#{a b}` and `{k v, k v}`.
 ///
 /// # Errors
-/// [`Refusal::NoMemory`] if the vector's growth was refused; its bytes are then as before.
+/// [`Refusal::NoMemory`] if an allocation fails; `text` is then as it was before.
 ///
-/// The time is that of the text's length. The recursion is at most as deep as a text may nest, 32 collections.
+/// Costs O(length of the text). The recursion is at most 32 deep, since a text has at most 32 open collections.
 pub fn write(element: &Edn, text: &mut Vec<u8>) -> Result<(), Refusal>
     requires { IsInProfile (value_of element.now) }
     ensures written { text.new.items ≡ (if is_ok result
@@ -44,7 +45,7 @@ fn append_integer(number: i64, text: &mut Vec<u8>) -> Result<(), AllocError>
     text.extend_from_slice(buffer.format(number).as_bytes())
 }
 
-// The letter of the byte's escape, if it has one.
+// Returns the letter of the byte's escape, if the byte has one.
 fn escape_of(byte: u8) -> Option<u8>
     ensures found { IfSome result (λ letter. spelling byte ≡ 92 ∷ letter ∷ []) }
     ensures none { IfNone result (spelling byte ≡ byte ∷ []) }
@@ -67,7 +68,7 @@ fn append_byte(byte: u8, text: &mut Vec<u8>) -> Result<(), AllocError>
     }
 }
 
-// The inside of a string.
+// Appends the inside of a string.
 fn append_bytes(bytes: &[u8], text: &mut Vec<u8>) -> Result<(), AllocError>
     ensures { Appends result text.old.items text.new.items (flat_map spelling bytes.now) }
 {
@@ -93,7 +94,7 @@ fn append_keyword(name: &str, text: &mut Vec<u8>) -> Result<(), AllocError>
     text.extend_from_slice(name.as_bytes())
 }
 
-// The separator that stands before the element or pair at this place of a collection.
+// Appends the separator before the element or pair at `place` of a collection: nothing at place 0.
 fn append_separator(separator: &[u8], place: usize, text: &mut Vec<u8>) -> Result<(), AllocError>
     ensures { Appends result text.old.items text.new.items
         (if place == 0 then [] else separator.now) }
@@ -151,7 +152,7 @@ fn append_map(found: &[(Edn, Edn)], text: &mut Vec<u8>) -> Result<(), AllocError
     text.extend_from_slice(b"}")
 }
 
-// The elements, with a space between each two.
+// Appends the elements, with a space between each two.
 #[cycle(writer)]
 fn append_elements(elements: &[Edn], text: &mut Vec<u8>) -> Result<(), AllocError>
     ensures { Appends result text.old.items text.new.items
@@ -164,7 +165,7 @@ fn append_elements(elements: &[Edn], text: &mut Vec<u8>) -> Result<(), AllocErro
     Ok(())
 }
 
-// The pairs, with a comma and a space between each two.
+// Appends the pairs, with a comma and a space between each two.
 #[cycle(writer)]
 fn append_pairs(found: &[(Edn, Edn)], text: &mut Vec<u8>) -> Result<(), AllocError>
     ensures { Appends result text.old.items text.new.items

@@ -1,4 +1,4 @@
-//! The ends after an event, by those before it.
+//! The computation of the ends after an event from the ends before it.
 ghost use Rattle.std.specs.Prelude.{◌≡◌, ◌↔◌, ◌<◌, ◌+◌, ℕ, List, [], IsTrue, false, None, map, length};
 ghost use Rattle.std.specs.Prelude.{IfOk, OnOk, IfSome};
 ghost use Rattle.linspec.specs.Ends.{End};
@@ -10,20 +10,21 @@ ghost use Rattle.ends.specs.Oks.{AreMarksOf, IsLeft, asked_by};
 
 use crate::returning::Returning;
 use interner::FoundTable;
-use models::{Answer, SeqObject, finding};
+use models::{Answer, finding};
 use moves::{KeptEnd, PendingOp, Table, copy_of};
+use objects::Specification;
 use rows::RowSet;
 use std::alloc::{AllocError, Global};
 use std::hash::Hash;
 
-// Whether the call is of this operation, which is open.
+// Returns whether the call is of operation `id` and the operation is open.
 fn is_open(call: &PendingOp, id: u32) -> bool
     ensures { IsTrue result ↔ (call.now.id ≡ id) × (call.now.crashed ≡ false) }
 {
     call.id == id && !call.crashed
 }
 
-/// The place of the open operation among the calls; none if it is not open. Costs O(calls).
+/// Returns the place of the open operation `id` among the calls, or `None` if it is not open. Costs O(calls).
 pub fn place_of_open(calls: &[PendingOp], id: u32) -> Option<usize>
     ensures there { IfSome result (λ at. IsOpenAt calls.now at id) }
     ensures within { IfSome result (λ at. at < length calls.now) }
@@ -37,7 +38,7 @@ pub fn place_of_open(calls: &[PendingOp], id: u32) -> Option<usize>
     None
 }
 
-// Makes room for `long` + 1 marks.
+// Extends `marks` to `long` + 1 marks.
 #[inline(never)]
 fn lengthen(marks: &mut Vec<bool>, long: usize) -> Result<(), AllocError>
     ensures { OnOk result (long < length marks.new.items) }
@@ -47,9 +48,9 @@ fn lengthen(marks: &mut Vec<bool>, long: usize) -> Result<(), AllocError>
     Ok(())
 }
 
-/// Writes the marks of the numbers that a row may have at the place of an open operation. A number has one if its answer fits; zero, with
-/// which the operation is not in, has none. Marks behind these stay as they were. `AllocError` if there is no memory for them: then
-/// there may be more of them. Costs O(answers).
+/// Marks the numbers that a row may have at the place of an operation with this answer. The number of a found value is marked if the answer
+/// fits it. Zero, for an end that does not contain the operation, is not marked. Marks of greater numbers do not change. `AllocError` if an
+/// allocation fails; `marks` may have become longer then. Costs O(found values).
 pub fn mark_fitting(
     founds: &FoundTable,
     answer: &Answer,
@@ -70,8 +71,8 @@ pub fn mark_fitting(
     Ok(())
 }
 
-/// Replaces the rows by those that an ok leaves: for each end that has the operation with a fitting answer the row, without the operation's
-/// number. Leaves no rows if the operation is not open. Looks at one number of each row.
+/// Replaces `rows` by the rows after an ok: the row of each end that contains the operation with a fitting answer, without the operation's
+/// number. There are no rows if the operation is not open. Looks at one number of each row.
 pub fn put_left_by_ok<S: Hash + Drop>(
     table: &Table<S>,
     returning: &Returning,
@@ -95,8 +96,8 @@ pub fn put_left_by_ok<S: Hash + Drop>(
     }
 }
 
-/// Replaces the rows by the rows that a fail of the open operation leaves: each row whose end does not have the operation, without the
-/// operation's number. Leaves no rows if the operation is not open. Looks at one number of each row.
+/// Replaces `rows` by the rows after a fail of the open operation `id`. These are the rows whose end does not contain the operation,
+/// without the operation's number. There are no rows if the operation is not open. Looks at one number of each row.
 pub fn failed<S: Hash + Drop>(
     table: &Table<S>,
     calls: &[PendingOp],
@@ -120,10 +121,10 @@ pub fn failed<S: Hash + Drop>(
     }
 }
 
-/// The ends after the operation has crashed, in the same order. If it counts it is among the crashed ones of an end that it is in, and else
-/// it is in no end any more. Ends that differed before may be the same then. Costs O(ends), with a copy of the state and of the operations
-/// of each.
-pub fn crashed_ends<M: SeqObject>(
+/// Returns the ends after the crash of operation `id`, in the same order. If `counts`, an end that contains the operation moves it from its
+/// open operations to its crashed ones. Otherwise every end drops it. Two different ends may become equal. Costs O(ends), and a copy of the
+/// state and the operations of each.
+pub fn crashed_ends<M: Specification>(
     alloc: Global,
     ends: &[KeptEnd<M::State>],
     id: u32,

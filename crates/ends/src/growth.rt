@@ -1,4 +1,4 @@
-//! The ends that calls lead to from others.
+//! The ends to which calls lead from other ends.
 ghost use Rattle.std.specs.Prelude.{◌≡◌, ℕ, ◌+◌, ◌<◌, ◌≤◌, true, false, take, drop};
 ghost use Rattle.std.specs.Prelude.{List, [], ◌∷◌, get_or, length, slice_get, Some, IfOk, OnOk};
 ghost use Rattle.models.specs.Objects.{of_table};
@@ -12,15 +12,15 @@ ghost use Rattle.ends.specs.Oks.{asked_by, most_steps};
 
 use crate::after;
 use crate::returning::Returning;
-use models::SeqObject;
 use moves::table::{self, Table};
 use moves::{Attempt, Move, Moves, PendingOp};
+use objects::Specification;
 use rows::{Row, RowSet};
 use std::alloc::{AllocError, Global};
 use std::hash::Hash;
 
-/// Memory that an ok works in, kept for the next one. It has the moves of calls in states, the row that is looked at, and the marks of
-/// fitting answers. The rows that are left are in it too, and a fail puts its own there.
+/// Memory for the work of an ok, which is kept for the next one. It has the moves of calls in states, the current row, and the marks of
+/// fitting answers. It also has the resulting rows, of an ok or of a fail.
 pub struct Workspace<S> {
     moves: Moves<S>,
     row: Row,
@@ -28,7 +28,7 @@ pub struct Workspace<S> {
     pub rows: RowSet,
 }
 
-// So that crates above give one back by one call.
+// With this implementation, a crate above drops a workspace by one call.
 impl<S: Drop> Drop for Workspace<S> {
     fn drop(self) {
         let Workspace {
@@ -41,7 +41,7 @@ impl<S: Drop> Drop for Workspace<S> {
 }
 
 impl<S> Workspace<S> {
-    /// No memory yet.
+    /// Returns a workspace without memory.
     pub fn new(alloc: Global) -> Workspace<S> {
         Workspace {
             moves: Moves::new(alloc),
@@ -53,7 +53,7 @@ impl<S> Workspace<S> {
 }
 
 impl<S: Drop> Workspace<S> {
-    /// Memory for the oks of two clients, which grows where there are more.
+    /// Returns a workspace with memory for the oks of two clients. It grows if there are more.
     pub fn for_two(alloc: Global) -> Result<Workspace<S>, AllocError> {
         let mut room = Workspace::new(alloc);
         room.moves = Moves::with_room(alloc)?;
@@ -61,7 +61,8 @@ impl<S: Drop> Workspace<S> {
     }
 }
 
-// Adds a copy of the row at `from` for each target: with the target's number of a state first, and its number of the answer at the place.
+// Adds a copy of the row at index `from` for each target. The copy begins with the number of the target's state, and has that of the
+// target's found value at `place`.
 #[inline(never)]
 fn put_each<S: Hash + Drop>(
     table: &mut Table<S>,
@@ -83,7 +84,7 @@ fn put_each<S: Hash + Drop>(
     Ok(())
 }
 
-// Adds a copy of the row at `from` for each target of the move.
+// Adds a copy of the row at index `from` for each target of the move.
 #[inline(always)]
 fn put_led<S: Hash + Drop>(
     table: &mut Table<S>,
@@ -116,8 +117,9 @@ fn put_led<S: Hash + Drop>(
     }
 }
 
-// Adds a row for each end that the call leads to from the end of the row at `from`, which is this row, and in which the call is not.
-fn grow_at<M: SeqObject>(
+// Adds a row for each end to which the call leads from the end of `row`, which does not contain the call. `row` is the row at index `from`.
+fn grow_at<M: Specification>(
+    specification: M,
     table: &mut Table<M::State>,
     moves: &mut Moves<M::State>,
     from: usize,
@@ -132,9 +134,9 @@ fn grow_at<M: SeqObject>(
     requires row { row.now ≡ get_or (rows_of table.old) from [] }
     requires number { attempt.number ≡ get_or row.now 0 0 }
     requires zero_there { slice_get row.now (attempt.at + 1) ≡ Some 0 }
-    ensures moves { OnOk result (KeepMoves M.apply_to calls.now table.old table.new moves.old moves.new) }
-    ensures adds { let object = of_table M.State M.start_state M.apply_to in
-        AreMoves M.apply_to table.old calls.now moves.old.known moves.old.targets.items
+    ensures moves { OnOk result (KeepMoves (M.outcomes_of specification) calls.now table.old table.new moves.old moves.new) }
+    ensures adds { let object = of_table M.State (M.start_of specification) (M.outcomes_of specification) in
+        AreMoves (M.outcomes_of specification) table.old calls.now moves.old.known moves.old.targets.items
         → IsAlike calls.now attempt.at attempt.representative → HasEachOnce calls.now
         → (c : PendingOp) (e : End M.State) (ends : List (End M.State))
         → slice_get calls.now attempt.at ≡ Some c → Shows table.old calls.now row.now e
@@ -143,15 +145,16 @@ fn grow_at<M: SeqObject>(
     ensures only_adds { OnlyAdds table.old table.new applied.old applied.new }
     ensures cost { applied.new ≤ applied.old + 1 }
 {
-    let to = table::led_to::<M>(table, moves, row, calls, attempt, applied)?;
+    let to = table::led_to::<M>(specification, table, moves, row, calls, attempt, applied)?;
     if let Move::Nowhere = to {
         return Ok(());
     }
     put_led(table, from, attempt.at + 1, to, &moves.targets)
 }
 
-// Adds a row for each end that a call from the first place on leads to from the end of the row at `from`, which is this row.
-fn grow_from<M: SeqObject>(
+// Adds a row for each end to which a call from place `first` on leads from the end of `row`. `row` is the row at index `from`.
+fn grow_from<M: Specification>(
+    specification: M,
     table: &mut Table<M::State>,
     moves: &mut Moves<M::State>,
     from: usize,
@@ -162,9 +165,9 @@ fn grow_from<M: SeqObject>(
 ) -> Result<(), AllocError>
     requires here { from < length (rows_of table.old) }
     requires row { row.now ≡ get_or (rows_of table.old) from [] }
-    ensures moves { OnOk result (KeepMoves M.apply_to calls.now table.old table.new moves.old moves.new) }
-    ensures adds { let object = of_table M.State M.start_state M.apply_to in
-        AreMoves M.apply_to table.old calls.now moves.old.known moves.old.targets.items
+    ensures moves { OnOk result (KeepMoves (M.outcomes_of specification) calls.now table.old table.new moves.old moves.new) }
+    ensures adds { let object = of_table M.State (M.start_of specification) (M.outcomes_of specification) in
+        AreMoves (M.outcomes_of specification) table.old calls.now moves.old.known moves.old.targets.items
         → AreAlike calls.now moves.old.likes.items → HasEachOnce calls.now
         → (e : End M.State) (ends : List (End M.State))
         → Shows table.old calls.now row.now e → AreShown table.old calls.now ends
@@ -188,6 +191,7 @@ fn grow_from<M: SeqObject>(
         }
         let representative = like.representative;
         grow_at::<M>(
+            specification,
             table,
             moves,
             from,
@@ -205,7 +209,7 @@ fn grow_from<M: SeqObject>(
     Ok(())
 }
 
-// From which call on the calls are tried on the end of this row: on a kept one those that were not tried yet.
+// Returns the first call to try on the end of the row at index `from`. The calls before `tried` were tried on the rows before `kept`.
 fn first_for(from: usize, kept: usize, tried: usize) -> usize
     ensures old { from < kept → result ≡ tried }
     ensures new { kept ≤ from → result ≡ 0 }
@@ -213,9 +217,10 @@ fn first_for(from: usize, kept: usize, tried: usize) -> usize
     if from < kept { tried } else { 0 }
 }
 
-// Whether some call from that place on leads from the end of the row to more ends than the budget. Such a call is not in that end, and has
-// more outcomes in its state.
-fn leads_beyond<M: SeqObject>(
+// Returns whether a call from place `first` on leads from the end of the row to more ends than the budget. The end does not contain such a
+// call, and the call has more outcomes in its state than the budget.
+fn leads_beyond<M: Specification>(
+    specification: M,
     table: &Table<M::State>,
     row: &Row,
     calls: &[PendingOp],
@@ -223,43 +228,46 @@ fn leads_beyond<M: SeqObject>(
     budget: u32,
 ) -> bool
     requires some { 1 ≤ budget }
-    ensures beyond { let object = of_table M.State M.start_state M.apply_to in
+    ensures beyond { let object = of_table M.State (M.start_of specification) (M.outcomes_of specification) in
         result ≡ true → (e : End M.State) → Shows table.now calls.now row.now e
         → ReachesMoreThan object calls.now (e ∷ []) budget }
     ensures within { result ≡ false → (at : ℕ) (c : PendingOp) (e : End M.State)
         → first ≤ at
         → slice_get calls.now at ≡ Some c → Shows table.now calls.now row.now e
-        → is_in e c.id c.crashed ≡ false → length (M.apply_to c.op e.state) ≤ budget }
+        → is_in e c.id c.crashed ≡ false → length (M.outcomes_of specification c.op e.state) ≤ budget }
 {
     let Some(state) = table::state_numbered(table, row.first()) else {
         return false;
     };
     for at in first..calls.len() {
-        if M::has_more_outcomes(state, &calls[at].op, budget as usize) && row.has_zero(at + 1) {
+        if specification.has_more_outcomes(state, &calls[at].op, budget as usize)
+            && row.has_zero(at + 1)
+        {
             return true;
         }
     }
     false
 }
 
-// Adds the ends to which the calls lead. Goes once through the rows, which grow at their end, up to the budget. Calls that were tried
-// before are tried on new rows alone. Returns false if there are more ends than the budget; then some ends may be missing. Also returns
-// false before it tries a call that has more outcomes in a state than the budget.
-fn grow<M: SeqObject>(
+// Adds the ends to which the calls lead. Goes once through the rows, which grow at their end up to the budget. Calls that were tried before
+// are tried only on new rows. Returns false if there are more ends than the budget; some ends may be missing then. Returns false too before
+// it tries a call that has more outcomes in a state than the budget.
+fn grow<M: Specification>(
+    specification: M,
     table: &mut Table<M::State>,
     moves: &mut Moves<M::State>,
     row: &mut Row,
     returning: &Returning,
     applied: &mut u64,
 ) -> Result<bool, AllocError>
-    ensures grows { let object = of_table M.State M.start_state M.apply_to in
+    ensures grows { let object = of_table M.State (M.start_of specification) (M.outcomes_of specification) in
         let calls = returning.now.calls.now in
         HasEachOnce calls → (ends : List (End M.State)) → AreShown table.old calls ends
         → AreClosed object (take returning.now.tried calls) ends
         → IfOk result (ShownGrown object table.new calls ends) }
     ensures within { IfOk result (λ within_budget. within_budget ≡ true
         → length (rows_of table.new) ≤ returning.now.budget) }
-    ensures over { let object = of_table M.State M.start_state M.apply_to in
+    ensures over { let object = of_table M.State (M.start_of specification) (M.outcomes_of specification) in
         ReachesOver object table.old (asked_by returning.now) result }
     ensures only_adds { OnlyAdds table.old table.new applied.old applied.new }
     ensures cost { applied.new ≤ applied.old + most_steps (asked_by returning.now) }
@@ -279,34 +287,60 @@ fn grow<M: SeqObject>(
             continue;
         }
         table.rows.look(from, row)?;
-        if leads_beyond::<M>(table, row, returning.calls, first, returning.budget) {
+        if leads_beyond::<M>(
+            specification,
+            table,
+            row,
+            returning.calls,
+            first,
+            returning.budget,
+        ) {
             return Ok(false);
         }
-        grow_from::<M>(table, moves, from, row, returning.calls, first, applied)?;
+        grow_from::<M>(
+            specification,
+            table,
+            moves,
+            from,
+            row,
+            returning.calls,
+            first,
+            applied,
+        )?;
     }
     Ok(table.rows.len() <= returning.budget as usize)
 }
 
-/// Puts the rows of the ends that are left after the operation has returned into the room. These are the ends that have it with a fitting
-/// answer, each without it. False if all ends, including those that the calls lead to one after another, are more than the budget. This is
-/// so if each end is there once, each call is of another operation, and the calls that were tried already lead from the ends to no others.
-/// No more ends than the budget are extended, and no call is tried that has more outcomes than the budget. The rows of the table stay.
+/// Replaces the rows of `room` by those of the ends that are left after the operation has returned. These are the ends that contain it with
+/// a fitting answer, each without it. The rows of the table do not change.
 ///
-/// `AllocError` if there is no memory for them: the rows of the table stay then too, and the steps that were made stay counted. It makes at
-/// most one step for each call and each end that is extended, and looks the row of each end that comes of one up among the others.
-pub fn advance<M: SeqObject>(
+/// Returns false if all ends, including those to which the calls lead one after another, outnumber the budget. This is exact under three
+/// conditions. Each end is in the table once; no two calls are of one operation; the first `tried` calls lead from the ends to no other
+/// ends. Extends at most as many ends as the budget, and tries no call with more outcomes than the budget.
+///
+/// `AllocError` if an allocation fails; the rows of the table do not change then either, and the steps that were made are counted. Makes at
+/// most one step for each call and each extended end, and a look-up of each row that results.
+pub fn advance<M: Specification>(
+    specification: M,
     table: &mut Table<M::State>,
     room: &mut Workspace<M::State>,
     returning: &Returning,
     applied: &mut u64,
 ) -> Result<bool, AllocError>
-    ensures found { let object = of_table M.State M.start_state M.apply_to in
+    ensures found { let object = of_table M.State (M.start_of specification) (M.outcomes_of specification) in
         FindsLeft object table.old (with_rows table.new room.new.rows) (asked_by returning.now) result }
     ensures tries { OnlyTries table.old table.new applied.old applied.new }
     ensures cost { applied.new ≤ applied.old + most_steps (asked_by returning.now) }
 {
     let kept = table.rows.len();
-    let within_budget = grow::<M>(table, &mut room.moves, &mut room.row, returning, applied);
+    let within_budget = grow::<M>(
+        specification,
+        table,
+        &mut room.moves,
+        &mut room.row,
+        returning,
+        applied,
+    );
     let left = match within_budget {
         Ok(true) => after::put_left_by_ok(table, returning, &mut room.marks, &mut room.rows),
         _ => Ok(()),

@@ -1,10 +1,10 @@
-//! What an ok asks.
+//! The parameters of an ok.
 
 use models::Answer;
 use moves::PendingOp;
 
-/// An open operation of a key that returns: the calls, its id and its answer. The first `tried` calls were tried on the kept ends, and the
-/// budget is the greatest number of ends just before it.
+/// An open operation of a key that returns: the calls, the operation's id, and its answer. The first `tried` calls were tried on the kept
+/// ends. The budget limits the number of ends just before the ok.
 #[derive(Clone, Copy)]
 pub struct Returning<'a> {
     pub calls: &'a [PendingOp],

@@ -2,6 +2,7 @@ pub mod Replicas
 pub mod Values
 pub mod AnySet
 pub mod OneEvent
+pub mod OwnNames
 pub mod OpEvents
 pub mod KeyEvents
 pub mod ReadEach

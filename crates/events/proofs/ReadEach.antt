@@ -7,9 +7,9 @@ use Rattle.std.proofs.lemmas.List.Elements.{Contains-append_left, Contains-appen
 use Rattle.values.specs.Members.{IsAscending}
 use Rattle.values.proofs.Sorting.{one_ascending}
 use Rattle.values.proofs.PutIn.{Contains-put_in, IsAscending-put_in}
-use Rattle.edn.specs.Value.{Value}
-use Rattle.edn.specs.View.{value_of, values_of}
-use Rattle.edn.specs.declared.value.Edn.{Edn}
+use Rattle.edn_values.specs.Value.{Value}
+use Rattle.edn_values.specs.View.{value_of, values_of}
+use Rattle.edn_values.specs.declared.value.Edn.{Edn}
 use Rattle.events.specs.Spelling.{with_first, each_in, ascending}
 
 -- the elements read so far, and behind them those of the rest

@@ -1,9 +1,9 @@
 -- The elements of a vector, and values that spell no part
 use Rattle.std.proofs.Common.{◌≡◌, ◌≢◌, ℤ, true, is_some, Option, Some, None, List, [], ◌∷◌, length, refl, sym, ap, ◌∙◌}
-use Rattle.edn.specs.Value.{Value, nil, int, vector, none, more}
-use Rattle.edn.specs.Parts.{int_in}
-use Rattle.edn.specs.View.{values_of}
-use Rattle.edn.specs.declared.value.Edn.{Edn}
+use Rattle.edn_values.specs.Value.{Value, nil, int, vector, none, more}
+use Rattle.edn_values.specs.Parts.{int_in}
+use Rattle.edn_values.specs.View.{values_of}
+use Rattle.edn_values.specs.declared.value.Edn.{Edn}
 use Rattle.models.specs.declared.operation.Part.{Part}
 use Rattle.models.specs.declared.operation.Part.TheVariants.{Nil, Int, Pair, Set}
 use Rattle.models.specs.declared.operation.Name.{Name}

@@ -1,5 +1,5 @@
 -- The written form of an event spells the event
-use Rattle.std.proofs.Common.{◌≡◌, ℕ, suc, ℤ, ◌+◌, ◌<◌, ◌≤◌, ◌^◌, true, false, cond, Option, Some, None, Vec, ◌<ℤ◌, ⊎_elim, Global, List, [], ◌∷◌, ◌++◌, length, map, take, get_or, option_map, refl, sym, ap, ◌∙◌, subst, rules, arith}
+use Rattle.std.proofs.Common.{◌≡◌, Result, Ok, Err, IfOk, ℕ, suc, ℤ, ◌+◌, ◌<◌, ◌≤◌, ◌^◌, true, false, cond, Option, Some, None, Vec, ◌<ℤ◌, ⊎_elim, Global, List, [], ◌∷◌, ◌++◌, length, map, take, get_or, option_map, refl, sym, ap, ◌∙◌, subst, rules, arith}
 use Rattle.std.specs.Prelude.{int_lt}
 use Rattle.std.specs.declared.cmp.Ordering.TheVariants.{Less, Equal, Greater}
 use Rattle.std.proofs.lemmas.Bool.{lt-ltb, cases_Bool}
@@ -7,11 +7,17 @@ use Rattle.std.proofs.lemmas.Int.{ints}
 use Rattle.std.proofs.lemmas.Cmp.{int_ranked}
 use Rattle.std.proofs.lemmas.List.{take_more, take_all, map-append}
 use Rattle.std.proofs.lemmas.List.Elements.{Contains-append_left, Contains-push}
-use Rattle.edn.specs.Value.{Value, int, keyword, vector, members}
-use Rattle.edn.specs.Parts.{int_in}
-use Rattle.edn.specs.View.{list_of, value_of, values_of}
-use Rattle.edn.specs.declared.value.Edn.{Edn, Vector, the_lemmas}
-use Rattle.edn.specs.declared.value.Edn.{Set as ASet}
+use Rattle.edn_values.specs.Value.{Value, int, keyword, vector, members}
+use Rattle.edn_values.specs.Parts.{int_in}
+use Rattle.edn_values.specs.View.{list_of, value_of, values_of}
+use Rattle.edn_values.specs.declared.value.Edn.{Edn, Vector, the_lemmas}
+use Rattle.edn_values.specs.declared.value.Edn.{Set as ASet}
+use Rattle.models.specs.declared.operation.Name.{Name}
+use Rattle.models.specs.declared.operation.Name.TheVariants.{Read, Write, Cas, Acquire, Release, Enqueue, Dequeue, Add, Own}
+use Rattle.models.specs.declared.operation.Part.{Part}
+use Rattle.models.specs.declared.operation.Part.TheVariants.{Nil, Int, Pair, Set}
+use Rattle.models.specs.Names.{HasText}
+use Rattle.object_names.specs.declared.names.Names.{Names}
 use Rattle.values.specs.Members.{IsAscending, put_in}
 use Rattle.events.specs.declared.event.EventKind.{EventKind}
 use Rattle.events.specs.declared.event.EventKind.TheVariants.{Info}
@@ -20,9 +26,10 @@ use Rattle.events.specs.declared.event.Process.TheVariants.{Client, Nemesis}
 use Rattle.events.specs.declared.event.Body.{Body}
 use Rattle.events.specs.declared.event.Body.TheVariants.{Op as AnOp, Fault as AFault}
 use Rattle.events.specs.declared.event.Event.{Event}
-use Rattle.events.specs.Spelling.{number_in, numbers_in, groups_in, with_first, each_in, ascending, set_in, SpellsProcess, SpellsBody, Spells}
+use Rattle.events.specs.Spelling.{number_in, numbers_in, groups_in, with_first, each_in, ascending, set_in, SpellsProcess, SpellsGiven, SpellsBodyBy, SpellsBy}
 use Rattle.events.specs.Tables.{IsInTables}
-use Rattle.events.specs.EventMap.{number, numbers, kind_of_fault, name_of_body, event_value, with_index, IsToldBy}
+use Rattle.events.specs.EventMap.{number, numbers, given_value, kind_of_fault, name_of_body, is_given, event_value, with_index, IsGiven, CanBeWritten, IsOfProgram, IsToldBy}
+use Rattle.events.specs.OwnNames.{own_by, puts_client, text_in, asks_in, IsKnown}
 
 pub view-Vector : (v : Vec Edn Global) → value_of (Vector v) ≡ vector (values_of v.items)
 view-Vector v = search (rules, the_lemmas)
@@ -129,13 +136,55 @@ groups_read_all v groups whole i h is so =
     ap groups_in (view-Vector v) ∙ so ∙ ap (λ l. Some (lists l)) (take_all i groups h) ∙ ap Some is
 
 -- the map of an event
-about : (kind : EventKind) (process : Process) (body : Body) (value : Value) → IsInTables kind process body → IsToldBy value body → SpellsBody process (keyword (name_of_body body)) value body
-about kind (Client p) (AnOp op) value tables told = (refl, told)
-about Info Nemesis (AFault fault) value tables told = (kind_of_fault fault, refl, told)
-about _ _ _ value tables told = absurd tables
+about : (names : Option Names) (kind : EventKind) (process : Process) (body : Body) (value : Value) → CanBeWritten names kind process body → IsInTables kind process body
+    → IsToldBy (is_given names kind body) value body → SpellsBodyBy (own_by names) kind process (keyword (name_of_body names body)) value body
+about names kind (Client p) (AnOp op) value can tables told = (asks_in names op.name, (text_in names op.name, refl, can.0), told p can.1)
+about names Info Nemesis (AFault fault) value can tables told = (kind_of_fault fault, refl, told)
+about names _ _ _ value can tables told = absurd tables
 
-pub map_spells : (v : Value) (i : ℕ) (e : Event) (process value : Value) (name : List ℕ) → v ≡ event_value i e.kind process name value → name ≡ name_of_body e.body → i < 2 ^ 32
-    → SpellsProcess process e.process → IsToldBy value e.body → IsInTables e.kind e.process e.body → Spells v (with_index i e)
-map_spells v i e process value name is named small spelled told tables =
-    subst (λ w. Spells w (with_index i e)) (sym (is ∙ ap (λ n. event_value i e.kind process n value) named))
-    (record { head = ((refl, small), refl, spelled); body = about e.kind e.process e.body value tables told; in_tables = tables })
+pub map_spells : (names : Option Names) (v : Value) (i : ℕ) (e : Event) (process value : Value) (name : List ℕ) → CanBeWritten names e.kind e.process e.body → v ≡ event_value i e.kind process name value
+    → name ≡ name_of_body names e.body → i < 2 ^ 32 → SpellsProcess process e.process → IsToldBy (is_given names e.kind e.body) value e.body → IsInTables e.kind e.process e.body
+    → SpellsBy (own_by names) v (with_index i e)
+map_spells names v i e process value name can is named small spelled told tables =
+    subst (λ w. SpellsBy (own_by names) w (with_index i e)) (sym (is ∙ ap (λ n. event_value i e.kind process n value) named))
+    (record { head = ((refl, small), refl, spelled); body = about names e.kind e.process e.body value can tables told; in_tables = tables })
+
+-- the part without the client
+pub given_back : (client : ℕ) (part : Part) (v : Value) → v ≡ given_value true part → IsGiven true client part → SpellsGiven true client v part
+given_back client (Int c) v is given = (given, is)
+given_back client (Pair c a) v is given = (given, is)
+given_back client Nil v is given = absurd given
+given_back client (Set xs) v is given = absurd given
+
+-- a name of the program needs no names
+known : (n : Name) → HasText n → IsKnown None n
+known Read has = (refl, refl)
+known Write has = (refl, refl)
+known Cas has = (refl, refl)
+known Acquire has = (refl, refl)
+known Release has = (refl, refl)
+known Enqueue has = (refl, refl)
+known Dequeue has = (refl, refl)
+known Add has = (refl, refl)
+known (Own number) has = absurd has
+
+not_given : (n : Name) (kind : EventKind) → HasText n → puts_client (asks_in None n) kind ≡ false
+not_given Read kind has = refl
+not_given Write kind has = refl
+not_given Cas kind has = refl
+not_given Acquire kind has = refl
+not_given Release kind has = refl
+not_given Enqueue kind has = refl
+not_given Dequeue kind has = refl
+not_given Add kind has = refl
+not_given (Own number) kind has = absurd has
+
+pub of_program : (kind : EventKind) (process : Process) (body : Body) → IsOfProgram body → CanBeWritten None kind process body
+of_program kind (Client p) (AnOp op) has = (known op.name has, subst (λ puts. IsGiven puts p op.part) (sym (not_given op.name kind has)) tt)
+of_program kind (Client p) (AFault fault) has = tt
+of_program kind Nemesis (AnOp op) has = tt
+of_program kind Nemesis (AFault fault) has = tt
+
+pub ok_more : {X E : Type 0} (r : Result X E) (P Q : X → Type 0) → ((x : X) → P x → Q x) → IfOk r P → IfOk r Q
+ok_more (Ok x) P Q f h = f x h
+ok_more (Err e) P Q f h = tt

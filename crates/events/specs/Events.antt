@@ -1,5 +1,5 @@
--- Promise: the meaning of events for operations. An operation is named by the index of its invocation, and a completion is of its process's
--- last invocation (the Jepsen documentation)
+-- Promise: the meaning of events for operations. The index of its invocation identifies an operation, and a completion belongs to its
+-- process's last invocation (the Jepsen documentation)
 use Rattle.std.specs.Prelude.{◌≡◌, ℕ, ◌+◌, List, [], ◌∷◌, ◌++◌, nat_eq, if◌then◌else◌, Bool, false, Option, Some, None, is_some, option_map, map}
 use Rattle.std.specs.List.{filter}
 use Rattle.models.specs.declared.operation.Op.{Op}
@@ -13,7 +13,7 @@ use Rattle.events.specs.declared.event.Body.{Body}
 use Rattle.events.specs.declared.event.Body.TheVariants.{Op as AnOp}
 use Rattle.events.specs.declared.event.Event.{Event}
 
--- what happens to an operation: it is invoked, has returned with an answer, has failed, has crashed
+-- the effect of an event on an operation: it is invoked, has returned with an answer, has failed, or has crashed
 pub data Act : Type 0 where
   Invokes : Op → Act
   Returns : Answer → Act
@@ -32,7 +32,7 @@ pub record OpEvent : Type 0 where
   pub key : ℕ
   pub act : Act
 
--- only a client's event speaks of an operation. A fault of the nemesis speaks of none, and has no key
+-- only a client's event is about an operation. A fault of the nemesis is not, and has no key
 abbrev pub op_event_in : EventKind → Process → Body → Option OpEvent
 op_event_in kind (Client p) (AnOp op) = Some (record { process = p; key = op.key; act = act_by kind op })
 op_event_in kind _ _ = None
@@ -43,27 +43,27 @@ op_event e = op_event_in e.kind e.process e.body
 abbrev pub key_of : Event → Option ℕ
 key_of e = option_map (λ o. o.key) (op_event e)
 
--- what happens to an operation
+-- an event of an operation, with the operation's index
 pub data Mark : Type 0 where
   Invoked : ℕ → Op → Mark
   Returned : ℕ → Answer → Mark
   Failed : ℕ → Mark
   Crashed : ℕ → Mark
 
--- a mark of a history: the index of its event, and its key
+-- a mark of a history, with the index of its event and its key
 pub record Entry : Type 0 where
   pub index : ℕ
   pub key : ℕ
   pub mark : Mark
 
--- the mark that an act makes at index i, where last is the last invocation of its process
+-- the mark of an act at index i, if last is the last invocation of its process
 abbrev pub mark_by_act : ℕ → ℕ → Act → Mark
 mark_by_act i last (Invokes op) = Invoked i op
 mark_by_act i last (Returns answer) = Returned last answer
 mark_by_act i last Fails = Failed last
 mark_by_act i last Crashes = Crashed last
 
--- the entry that an event makes, where the last invocation of each process is known
+-- the entry of an event, if the last invocation of each process is known
 abbrev pub entry_by : ℕ → (ℕ → ℕ) → OpEvent → Entry
 entry_by i last e = record { index = i; key = e.key; mark = mark_by_act i (last e.process) e.act }
 
@@ -88,16 +88,16 @@ entries_from last (x ∷ events) = entries_by x.0 last (op_event x.1) ++ entries
 abbrev pub entries_of : List (ℕ × Event) → List Entry
 entries_of events = entries_from (λ _. 0) events
 
--- a whole history, whose indices are its places
+-- a whole history, whose events are indexed by their places
 abbrev pub indexed_from : ℕ → List Event → List (ℕ × Event)
 indexed_from i [] = []
 indexed_from i (e ∷ events) = (i, e) ∷ indexed_from (i + 1) events
 
--- the entries of a key, whose indices stay
+-- the entries of a key, with the same indices
 abbrev pub of_key : ℕ → List Entry → List Entry
 of_key key entries = filter (λ e. nat_eq e.key key) entries
 
--- the events of a key, whose indices stay. A fault is not an event of any key
+-- the events of a key, with the same indices. A fault is not an event of any key
 abbrev pub is_of_key : ℕ → Option OpEvent → Bool
 is_of_key key None = false
 is_of_key key (Some e) = nat_eq e.key key
@@ -108,7 +108,7 @@ is_event_of key e = is_of_key key (op_event e)
 abbrev pub events_of_key : ℕ → List (ℕ × Event) → List (ℕ × Event)
 events_of_key key events = filter (λ x. is_event_of key x.1) events
 
--- the events that speak of an operation
+-- the events that are about an operation
 abbrev pub op_events : List (ℕ × Event) → List (ℕ × Event)
 op_events events = filter (λ x. is_some (op_event x.1)) events
 

@@ -1,4 +1,5 @@
 pub mod Events
+pub mod OwnNames
 pub mod ProcessRule
 pub mod Replicas
 pub mod Tables

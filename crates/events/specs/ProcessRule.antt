@@ -1,18 +1,18 @@
--- Promise: each process is sequential (a well-formed history; Herlihy and Wing 1990, section 2): it has at most one open
--- operation, completes that one, and the completion has its key. Nothing is said of which process a thread goes on with
+-- Promise: each process is sequential (a well-formed history; Herlihy and Wing 1990, section 2): it has at most one open operation and
+-- completes this one, and the completion has the operation's key. The next process of a thread is not part of this rule
 use Rattle.std.specs.Prelude.{◌≡◌, ℕ, ◌+◌, ◌≤◌, Option, Some, None, List, [], ◌∷◌, nat_eq, if◌then◌else◌}
 use Rattle.events.specs.Events.{Act, OpEvent, op_event}
 use Rattle.events.specs.Events.Act.{Invokes, Returns, Fails, Crashes}
 use Rattle.events.specs.declared.event.Event.{Event}
 
--- the act may come, where busy has the key of each process's open operation
+-- the act may come, if busy has the key of each process's open operation
 abbrev pub MayAct : (ℕ → Option ℕ) → ℕ → ℕ → Act → Type 0
 MayAct busy process key (Invokes op) = (busy process ≡ None) × (op.key ≡ key)
 MayAct busy process key (Returns answer) = busy process ≡ Some key
 MayAct busy process key Fails = busy process ≡ Some key
 MayAct busy process key Crashes = busy process ≡ Some key
 
--- an event that speaks of no operation may always come
+-- an event that is not about an operation may always come
 abbrev pub MayCome : (ℕ → Option ℕ) → Option OpEvent → Type 0
 MayCome busy None = Unit {0}
 MayCome busy (Some e) = MayAct busy e.process e.key e.act

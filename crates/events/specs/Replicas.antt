@@ -5,14 +5,14 @@ use Rattle.std.specs.List.{concat}
 abbrev pub IsReplica : ℕ → Type 0
 IsReplica r = r ≤ 6
 
--- groups of replica numbers, each number at most once
+-- groups of replica numbers, in which each number occurs at most once
 abbrev pub AreApart : List ℕ → Type 0
 AreApart numbers = All IsReplica numbers × ((r : ℕ) → count_by (λ x. x == r) numbers ≤ 1)
 
 abbrev pub AreGroups : List (List ℕ) → Type 0
 AreGroups groups = AreApart (concat groups)
 
--- the marks say which replicas the numbers name, each once
+-- the marks have true for exactly the replicas in numbers, each of which occurs once
 pub record HasSeen (seen : List Bool) (numbers : List ℕ) : Type 0 where
   pub len : length seen ≡ 7
   pub replicas : All IsReplica numbers

@@ -1,8 +1,8 @@
--- Promise: which values an event may have, by the tables of kinds and names, and which completion repeats its invocation. The tables
+-- Promise: the values that an event may have, by tables of kinds and names, and the completions that repeat their invocation. The tables
 -- are this project's own
 use Rattle.std.specs.Prelude.{◌≡◌}
 use Rattle.models.specs.declared.operation.Name.{Name}
-use Rattle.models.specs.declared.operation.Name.TheVariants.{Read, Write, Cas, Acquire, Release, Enqueue, Dequeue, Add}
+use Rattle.models.specs.declared.operation.Name.TheVariants.{Read, Write, Cas, Acquire, Release, Enqueue, Dequeue, Add, Own}
 use Rattle.models.specs.declared.operation.Part.{Part}
 use Rattle.models.specs.declared.operation.Part.TheVariants.{Nil, Int, Pair}
 use Rattle.models.specs.declared.operation.Op.{Op}
@@ -16,7 +16,7 @@ use Rattle.events.specs.declared.event.Fault.TheVariants.{Partition, Heal, Pause
 use Rattle.events.specs.declared.event.Body.{Body}
 use Rattle.events.specs.declared.event.Body.TheVariants.{Op as AnOp, Fault as AFault}
 
--- the part of an invocation, of a fail and of an info
+-- the part of an invocation, of a fail and of an info. An operation of an own name has any part except for a set
 abbrev pub IsPart : Name → Part → Type 0
 IsPart Read Nil = Unit {0}
 IsPart Write (Int v) = Unit {0}
@@ -26,9 +26,12 @@ IsPart Cas (Pair a b) = Unit {0}
 IsPart Acquire Nil = Unit {0}
 IsPart Release Nil = Unit {0}
 IsPart Dequeue Nil = Unit {0}
+IsPart (Own number) Nil = Unit {0}
+IsPart (Own number) (Int v) = Unit {0}
+IsPart (Own number) (Pair a b) = Unit {0}
 IsPart _ _ = ⊥
 
--- the part of an ok: the answer of a read or a dequeue, and otherwise that of the invocation
+-- the part of an ok: the answer for a read or a dequeue, and otherwise the part of the invocation
 abbrev pub IsOkPart : Name → Part → Type 0
 IsOkPart Read (Pair a b) = ⊥
 IsOkPart Read _ = Unit {0}
@@ -50,16 +53,17 @@ IsFault (Crash r) = IsReplica r
 IsFault (Restart r) = IsReplica r
 IsFault (LoseReplies n) = Unit {0}
 
--- a client's operation with a part of the table, or the nemesis's info of a fault
+-- a client's operation with a part in the table, or the nemesis's info of a fault
 abbrev pub IsInTables : EventKind → Process → Body → Type 0
 IsInTables kind (Client p) (AnOp op) = IsPartOf kind op.name op.part
 IsInTables Info Nemesis (AFault fault) = IsFault fault
 IsInTables _ _ _ = ⊥
 
--- the answer of a read or a dequeue is its own; every other completion repeats the part of the invocation
+-- the answer of a read, a dequeue or an own name is its own; every other completion repeats the part of the invocation
 abbrev pub IsRepeat : EventKind → Name → Part → Part → Type 0
 IsRepeat Ok Read invoked answer = Unit {0}
 IsRepeat Ok Dequeue invoked answer = Unit {0}
+IsRepeat Ok (Own number) invoked answer = Unit {0}
 IsRepeat _ _ invoked part = part ≡ invoked
 
 -- a completion of this kind and operation completes the invoked one

@@ -1,7 +1,7 @@
-//! Vectors and sets of a text.
+//! Vectors and sets in a text.
 ghost use Rattle.std.specs.Prelude.{◌≡◌, ◌^◌, ◌↔◌, ◌++◌, ℕ, List, Some, IsTrue, IsSome, IsSomeAnd, IsErr, IfOk, MatchBool, option_map, length};
-ghost use Rattle.edn.specs.View.{value_of, values_of};
-ghost use Rattle.edn.specs.Parts.{int_in};
+ghost use Rattle.edn_values.specs.View.{value_of, values_of};
+ghost use Rattle.edn_values.specs.Parts.{int_in};
 ghost use Rattle.events.specs.Replicas.{AreApart, AreGroups, HasSeen};
 ghost use Rattle.events.specs.Spelling.{number_in, numbers_in, groups_in, each_in, ascending, set_in};
 
@@ -10,22 +10,22 @@ use edn::Edn;
 use std::alloc::{AllocError, Global};
 use values::Members;
 
-/// The integer of 0 to 255 that an element is, if it is one.
+/// Returns the integer of the element, if it is an integer from 0 to 255.
 pub fn byte_of(element: &Edn) -> Option<u8>
     ensures { result ≡ number_in (2 ^ 8) (value_of element.now) }
 {
     u8::try_from(element.as_int()?).ok()
 }
 
-/// The integer of 0 to 65,535 that an element is, if it is one.
+/// Returns the integer of the element, if it is an integer from 0 to 65,535.
 pub fn count_of(element: &Edn) -> Option<u16>
     ensures { result ≡ number_in (2 ^ 16) (value_of element.now) }
 {
     u16::try_from(element.as_int()?).ok()
 }
 
-/// The set of integers of an element, whose members may have any order; `None` if the element is no such set. Costs a sort: O(n log n).
-/// Takes memory only if each member is an integer; `AllocError` if there is none.
+/// Returns the set of integers that the element spells, in any order; `None` if the element is not such a set. `AllocError` if an
+/// allocation fails. Allocates only if each member is an integer. Costs O(n log n) for a sort.
 pub fn set_of(alloc: Global, element: &Edn) -> Result<Option<Members>, AllocError>
     ensures found { IfOk result (λ found. found ≡ set_in (value_of element.now)) }
     ensures memory_last { IsErr result → IsSome (set_in (value_of element.now)) }
@@ -43,7 +43,7 @@ pub fn set_of(alloc: Global, element: &Edn) -> Result<Option<Members>, AllocErro
     Ok(Some(members))
 }
 
-// Whether each element is an integer.
+// Returns whether each element is an integer.
 fn are_integers(elements: &[Edn]) -> bool
     ensures { IsTrue result ↔ IsSome (each_in int_in (values_of elements.now)) }
 {
@@ -55,7 +55,7 @@ fn are_integers(elements: &[Edn]) -> bool
     true
 }
 
-// The integers, if each element is one.
+// Returns the integers, if each element is an integer.
 fn integers_of(alloc: Global, elements: &[Edn]) -> Result<Option<Vec<i64>>, AllocError>
     ensures { IfOk result (λ found. option_map (λ v. v.items) found
         ≡ each_in int_in (values_of elements.now)) }
@@ -70,14 +70,14 @@ fn integers_of(alloc: Global, elements: &[Edn]) -> Result<Option<Vec<i64>>, Allo
     Ok(Some(integers))
 }
 
-// The set of these integers.
+// Returns the set of these integers.
 fn members_of(integers: Vec<i64>) -> Result<Members, AllocError>
     ensures { IfOk result (λ members. members ≡ ascending integers.items) }
 {
     Members::of_unordered(integers)
 }
 
-/// Whether an element is groups of replicas' numbers, each number at most once.
+/// Returns whether the element is a vector of groups, in which each replica's number occurs at most once.
 pub fn are_groups(element: &Edn) -> bool
     ensures { IsTrue result ↔ IsSomeAnd (groups_in (value_of element.now)) AreGroups }
 {
@@ -93,7 +93,8 @@ pub fn are_groups(element: &Edn) -> bool
     true
 }
 
-// Marks the replicas that a vector names. It answers false if the element is not a vector of replicas' numbers, or one of them is marked.
+// Marks the replicas that a vector names. Returns false if the element is not a vector of replicas' numbers, or if one of them is already
+// marked.
 fn mark_each(element: &Edn, seen: &mut [bool]) -> bool
     requires { length seen.old ≡ 7 }
     ensures { (before : List ℕ) → HasSeen seen.old before → MatchBool result
@@ -116,7 +117,7 @@ fn mark_each(element: &Edn, seen: &mut [bool]) -> bool
     true
 }
 
-/// The groups of numbers that an element is, a vector of vectors, if it is one. Costs O(numbers).
+/// Returns the groups of numbers that the element spells, if it is a vector of vectors of numbers. Costs O(numbers).
 pub fn groups_of(alloc: Global, element: &Edn) -> Result<Option<Groups>, AllocError>
     ensures { IfOk result (λ found. found ≡ groups_in (value_of element.now)) }
 {
@@ -133,7 +134,7 @@ pub fn groups_of(alloc: Global, element: &Edn) -> Result<Option<Groups>, AllocEr
     Ok(Some(Groups::new(groups)))
 }
 
-// The numbers that an element is, a vector of them.
+// Returns the numbers that the element spells, if it is a vector of numbers.
 fn numbers_of(alloc: Global, element: &Edn) -> Result<Option<Vec<u8>>, AllocError>
     ensures { IfOk result (λ found. option_map (λ v. v.items) found
         ≡ numbers_in (value_of element.now)) }

@@ -6,8 +6,8 @@ use crate::groups::Groups;
 use models::{Key, Op};
 use std::alloc::AllocError;
 
-/// The type of an event: its operation is invoked; it took place; it did not; it may take place at any later moment, or never. (The Jepsen
-/// documentation.)
+/// The type of an event, as in the Jepsen documentation. `Invoke`: the operation begins. `Ok`: it took place. `Fail`: it did not take
+/// place. `Info`: it may take place at any later moment, or never.
 #[derive(Clone, Copy, Debug, PartialEq, Eq)]
 pub enum EventKind {
     Invoke,
@@ -16,14 +16,14 @@ pub enum EventKind {
     Info,
 }
 
-/// Whose event it is.
+/// The owner of an event.
 #[derive(Clone, Copy, Debug, PartialEq, Eq)]
 pub enum Process {
     Client(u32),
     Nemesis,
 }
 
-/// The nemesis's change of a replicated store.
+/// A change of a replicated store, which the nemesis makes.
 #[derive(Drop)]
 pub enum Fault {
     Partition(Groups),
@@ -42,7 +42,7 @@ pub enum Body {
     Fault(Fault),
 }
 
-/// An event of a history. The part of an ok's operation is the answer.
+/// An event of a history. The part of an ok is the answer.
 #[derive(Drop)]
 pub struct Event {
     pub index: Option<u32>,
@@ -52,7 +52,7 @@ pub struct Event {
 }
 
 impl Fault {
-    /// An equal fault, with memory of its own. Costs O(a partition's groups).
+    /// Returns an equal fault, with memory of its own. Costs O(groups of a partition).
     pub fn copy(&self) -> Result<Fault, AllocError>
         ensures { IfOk result (λ other. other ≡ self.now) }
     {
@@ -69,7 +69,7 @@ impl Fault {
 }
 
 impl Body {
-    /// An equal body. The members of a set are shared. Costs O(a partition's groups), and else constant time.
+    /// Returns an equal body. The members of a set are shared. Costs O(groups of a partition), and otherwise constant time.
     pub fn copy(&self) -> Result<Body, AllocError>
         ensures { IfOk result (λ other. other ≡ self.now) }
     {
@@ -81,7 +81,7 @@ impl Body {
 }
 
 impl Event {
-    /// An equal event. The members of a set are shared. Costs O(a partition's groups), and else constant time.
+    /// Returns an equal event. The members of a set are shared. Costs O(groups of a partition), and otherwise constant time.
     pub fn copy(&self) -> Result<Event, AllocError>
         ensures { IfOk result (λ other. other ≡ self.now) }
     {
@@ -94,7 +94,7 @@ impl Event {
         })
     }
 
-    /// The key of the event's operation, or `None` if the event has none, as a fault of the nemesis.
+    /// Returns the key of the event's operation, or `None` if the event has no key, such as a fault of the nemesis.
     pub fn key(&self) -> Option<Key>
         ensures { result ≡ key_of self.now }
     {
@@ -104,7 +104,7 @@ impl Event {
         }
     }
 
-    /// Whether the event speaks of an operation on this key.
+    /// Returns whether the event is about an operation on this key.
     pub fn is_of_key(&self, key: Key) -> bool
         ensures { result ≡ is_event_of key self.now }
     {

@@ -1,17 +1,21 @@
-//! Events as maps of a text.
-ghost use Rattle.std.specs.Prelude.{◌≡◌, ◌^◌, IfOk, OnOk, List, [], codes, map};
-ghost use Rattle.edn.specs.Value.{int, keyword, vector, more, none};
-ghost use Rattle.edn.specs.View.{value_of};
-ghost use Rattle.edn.specs.declared.value.Edn.{Edn};
-ghost use Rattle.events.specs.Spelling.{text_of_kind, SpellsProcess, SpellsPart, SpellsKeyed, number_in, numbers_in, groups_in, fault_by, Spells};
+//! Events as the maps of a text.
+ghost use Rattle.std.specs.Prelude.{◌≡◌, ◌^◌, ℕ, IfOk, OnOk, List, [], codes, map};
+ghost use Rattle.std.specs.Option.{option_copied};
+ghost use Rattle.edn_values.specs.Value.{int, keyword, vector, more, none};
+ghost use Rattle.edn_values.specs.View.{value_of};
+ghost use Rattle.edn_values.specs.declared.value.Edn.{Edn};
+ghost use Rattle.events.specs.Spelling.{text_of_kind, SpellsProcess, SpellsPart, SpellsGiven, SpellsKeyedBy, number_in, numbers_in, groups_in, fault_by, Spells, SpellsBy};
+ghost use Rattle.events.specs.OwnNames.{own_by};
 ghost use Rattle.events.specs.Tables.{IsInTables};
-ghost use Rattle.events.specs.EventMap.{number, numbers, process_value, part_value, kind_of_fault, fault_value, name_of_body, body_value, event_value, map_of, with_index, IsToldBy, IsPairBehind};
+ghost use Rattle.events.specs.EventMap.{number, numbers, process_value, part_value, given_value, kind_of_fault, fault_value, name_of_body, is_given, body_value, event_value, map_by, map_of, with_index, IsGiven, CanBeWritten, IsOfProgram, IsToldBy, IsPairBehind};
 
 use crate::event::{Body, Event, EventKind, Fault, Process};
 use crate::fault_kind::FaultKind;
 use crate::groups::Groups;
+use crate::own_names::{asks_of, puts_client, text_of};
 use edn::Edn;
 use models::{Key, Op, Part};
+use object_names::Names;
 use std::alloc::{AllocError, Global};
 
 fn keyword_of(alloc: Global, name: &str) -> Result<Edn, AllocError>
@@ -41,7 +45,7 @@ fn process_element(alloc: Global, process: Process) -> Result<Edn, AllocError>
     }
 }
 
-// A vector of these two.
+// Returns a vector of the two elements.
 fn two(alloc: Global, first: Edn, second: Edn) -> Result<Edn, AllocError>
     ensures { IfOk result (λ element. value_of element
         ≡ vector (more (value_of first) (more (value_of second) none))) }
@@ -74,7 +78,7 @@ fn part_element(alloc: Global, part: &Part) -> Result<Edn, AllocError>
     }
 }
 
-// The vector of a key and a part.
+// Returns a vector of the key and the part.
 fn keyed(alloc: Global, key: Key, part: Edn) -> Result<Edn, AllocError>
     ensures { IfOk result (λ element. value_of element
         ≡ vector (more (number key) (more (value_of part) none))) }
@@ -82,12 +86,28 @@ fn keyed(alloc: Global, key: Key, part: Edn) -> Result<Edn, AllocError>
     two(alloc, Edn::Int(i64::from(key)), part)
 }
 
-fn operation_element(alloc: Global, op: &Op) -> Result<Edn, AllocError>
-    ensures value { IfOk result (λ element. value_of element ≡ body_value (Body.Op op.now)) }
-    ensures spells { IfOk result (λ element.
-        SpellsKeyed (value_of element) op.now.key op.now.part) }
+// The part without the client before it, if `puts` says that the client is there.
+fn given_element(alloc: Global, puts: bool, part: &Part) -> Result<Edn, AllocError>
+    ensures value { IfOk result (λ element. value_of element ≡ given_value puts part.now) }
+    ensures spells { IfOk result (λ element. (client : ℕ) → IsGiven puts client part.now
+        → SpellsGiven puts client (value_of element) part.now) }
 {
-    let part = part_element(alloc, &op.part)?;
+    if !puts {
+        return part_element(alloc, part);
+    }
+    match part {
+        Part::Int(_) => Ok(Edn::Nil),
+        Part::Pair(_, a) => Ok(Edn::Int(*a)),
+        _ => part_element(alloc, part),
+    }
+}
+
+fn operation_element(alloc: Global, puts: bool, op: &Op) -> Result<Edn, AllocError>
+    ensures value { IfOk result (λ element. value_of element ≡ body_value puts (Body.Op op.now)) }
+    ensures spells { IfOk result (λ element. (client : ℕ) → IsGiven puts client op.now.part
+        → SpellsKeyedBy puts client (value_of element) op.now.key op.now.part) }
+{
+    let part = given_element(alloc, puts, &op.part)?;
     let element = keyed(alloc, op.key, part)?;
     Ok(element)
 }
@@ -152,26 +172,36 @@ fn fault_element(alloc: Global, fault: &Fault) -> Result<Edn, AllocError>
     }
 }
 
-fn name_of_body(body: &Body) -> &'static str
-    ensures { result.now ≡ name_of_body body.now }
+fn name_of_body<'a>(names: Option<&'a Names>, body: &Body) -> &'a str
+    ensures { result.now ≡ name_of_body (option_copied names.entry) body.now }
 {
     match body {
-        Body::Op(op) => op.name.text(),
+        Body::Op(op) => text_of(names, op.name),
         Body::Fault(fault) => FaultKind::of(fault).text(),
     }
 }
 
-fn body_element(alloc: Global, body: &Body) -> Result<Edn, AllocError>
-    ensures value { IfOk result (λ element. value_of element ≡ body_value body.now) }
-    ensures spells { IfOk result (λ element. IsToldBy (value_of element) body.now) }
+// Whether the client is before the part of the body.
+fn is_given(names: Option<&Names>, kind: EventKind, body: &Body) -> bool
+    ensures { result ≡ is_given (option_copied names.entry) kind body.now }
 {
     match body {
-        Body::Op(op) => operation_element(alloc, op),
+        Body::Op(op) => puts_client(asks_of(names, op.name), kind),
+        Body::Fault(_) => false,
+    }
+}
+
+fn body_element(alloc: Global, puts: bool, body: &Body) -> Result<Edn, AllocError>
+    ensures value { IfOk result (λ element. value_of element ≡ body_value puts body.now) }
+    ensures spells { IfOk result (λ element. IsToldBy puts (value_of element) body.now) }
+{
+    match body {
+        Body::Op(op) => operation_element(alloc, puts, op),
         Body::Fault(fault) => fault_element(alloc, fault),
     }
 }
 
-// Adds a pair, whose key is the keyword of this name.
+// Appends a pair, whose key is the keyword `name`.
 fn add(pairs: &mut Vec<(Edn, Edn)>, name: &str, value: Edn) -> Result<(), AllocError>
     ensures { OnOk result (IsPairBehind pairs.old.items name.now (value_of value) pairs.new.items) }
 {
@@ -180,7 +210,7 @@ fn add(pairs: &mut Vec<(Edn, Edn)>, name: &str, value: Edn) -> Result<(), AllocE
     Ok(())
 }
 
-// The same, if the value is the keyword of a name too.
+// Appends a pair, whose key and value are the keywords `key` and `name`.
 fn add_name(pairs: &mut Vec<(Edn, Edn)>, key: &str, name: &str) -> Result<(), AllocError>
     ensures { OnOk result
         (IsPairBehind pairs.old.items key.now (keyword name.now) pairs.new.items) }
@@ -189,7 +219,7 @@ fn add_name(pairs: &mut Vec<(Edn, Edn)>, key: &str, name: &str) -> Result<(), Al
     add(pairs, key, value)
 }
 
-// The first two pairs of the map of an event.
+// Returns the first two pairs of an event's map: its index and its type.
 fn first_pairs(alloc: Global, index: u32, kind: EventKind) -> Result<Vec<(Edn, Edn)>, AllocError>
     ensures { IfOk result (λ pairs. (one : List (Edn × Edn))
         × IsPairBehind [] (codes "index") (number index) one
@@ -201,7 +231,7 @@ fn first_pairs(alloc: Global, index: u32, kind: EventKind) -> Result<Vec<(Edn, E
     Ok(pairs)
 }
 
-// The map of these values, in the order of its keys.
+// Returns the map of an event with these values, in the order of its keys.
 fn map_of_values(
     alloc: Global,
     index: u32,
@@ -220,16 +250,36 @@ fn map_of_values(
     Ok(Edn::Map(pairs))
 }
 
-/// The map of the event, which states this index. Costs O(members of a set, or a partition's groups), and else constant time.
+/// The map of the event, which states this index. Costs O(members of a set, or a partition's groups), and else constant time. The map of an
+/// event with an own name has no name: see [`map_of_event_with`].
 pub fn map_of_event(alloc: Global, index: u32, event: &Event) -> Result<Edn, AllocError>
     requires { IsInTables event.now.kind event.now.process event.now.body }
     ensures value { IfOk result (λ element. value_of element ≡ map_of index event.now) }
+    ensures spells { IfOk result (λ element. IsOfProgram event.now.body
+        → Spells (value_of element) (with_index index event.now)) }
+{
+    map_of_event_with(alloc, None, index, event)
+}
+
+/// The map of the event, which states this index, if a file of rules gives these names. An own name has the text that the names have for it.
+/// If it asks for the client, then the map does not have the client in the part. Costs O(names), and what [`map_of_event`] costs.
+pub fn map_of_event_with(
+    alloc: Global,
+    names: Option<&Names>,
+    index: u32,
+    event: &Event,
+) -> Result<Edn, AllocError>
+    requires { IsInTables event.now.kind event.now.process event.now.body }
+    ensures value { IfOk result (λ element.
+        value_of element ≡ map_by (option_copied names.entry) index event.now) }
     ensures spells { IfOk result (λ element.
-        Spells (value_of element) (with_index index event.now)) }
+        CanBeWritten (option_copied names.entry) event.now.kind event.now.process event.now.body
+        → SpellsBy (own_by (option_copied names.entry)) (value_of element) (with_index index event.now)) }
 {
     let process = process_element(alloc, event.process)?;
-    let value = body_element(alloc, &event.body)?;
-    let name = name_of_body(&event.body);
+    let puts = is_given(names, event.kind, &event.body);
+    let value = body_element(alloc, puts, &event.body)?;
+    let name = name_of_body(names, &event.body);
     let element = map_of_values(alloc, index, event.kind, process, name, value)?;
     Ok(element)
 }

@@ -1,4 +1,4 @@
-//! The kinds of faults, as texts name them.
+//! The kinds of faults, and their names in texts.
 ghost use Rattle.std.specs.Prelude.{◌≡◌};
 ghost use Rattle.models.specs.Names.{Finds};
 ghost use Rattle.events.specs.Spelling.{text_of_fault};
@@ -6,7 +6,7 @@ ghost use Rattle.events.specs.EventMap.{kind_of_fault};
 
 use crate::event::Fault;
 
-/// The kind of a fault, without the replicas that it befalls.
+/// The kind of a fault, without the replicas that it affects.
 #[derive(Clone, Copy)]
 pub enum FaultKind {
     Partition,
@@ -19,7 +19,7 @@ pub enum FaultKind {
 }
 
 impl FaultKind {
-    /// The kind that is spelled so, or `None` if there is none.
+    /// Returns the kind that the text spells, or `None` if there is none.
     pub fn of_text(text: &str) -> Option<FaultKind>
         ensures { Finds result (λ kind. text.now ≡ text_of_fault kind) }
     {
@@ -47,7 +47,7 @@ impl FaultKind {
         None
     }
 
-    /// The kind of a fault.
+    /// Returns the kind of a fault.
     pub fn of(fault: &Fault) -> FaultKind
         ensures { result ≡ kind_of_fault fault.now }
     {
@@ -62,7 +62,7 @@ impl FaultKind {
         }
     }
 
-    /// The kind as a text spells it.
+    /// Returns the name of the kind in texts.
     pub fn text(self) -> &'static str
         ensures { result.now ≡ text_of_fault self }
     {

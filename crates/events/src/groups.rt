@@ -5,13 +5,13 @@ ghost use Rattle.events.specs.Replicas.{AreApart, AreGroups, HasSeen};
 use std::alloc::AllocError;
 use std::marker::Model;
 
-/// The most replicas: they are numbered from 0 to one below this.
+/// The maximum number of replicas. Their numbers are 0 to `MOST_REPLICAS` - 1.
 pub const MOST_REPLICAS: u8 = 7;
 
-/// As many, as a length.
+/// The maximum number of replicas, as a length.
 pub const REPLICAS: usize = 7;
 
-/// The groups into which a partition cuts the replicas, by their numbers. A replica that no group names is alone.
+/// The groups into which a partition divides the replicas, given by their numbers. A replica that no group names is alone.
 pub struct Groups {
     groups: Vec<Vec<u8>>,
 }
@@ -24,7 +24,7 @@ impl Model for Groups {
     ghost view = { λ a. map (λ v. v.items) a.groups.items };
 }
 
-// So that crates above give one back by one call.
+// With this implementation, a crate above drops the groups by one call.
 impl Drop for Groups {
     fn drop(self) {
         let Groups { groups: _groups } = self;
@@ -32,21 +32,21 @@ impl Drop for Groups {
 }
 
 impl Groups {
-    /// These groups, each the numbers of its replicas.
+    /// Returns the given groups, each as the numbers of its replicas.
     pub fn new(groups: Vec<Vec<u8>>) -> Groups
         ensures { result ≡ map (λ v. v.items) groups.items }
     {
         Groups { groups }
     }
 
-    /// The groups, in the order in which they were given.
+    /// Returns the groups, in the given order.
     pub fn groups(&self) -> &[Vec<u8>]
         ensures { map (λ v. v.items) result.now ≡ self.now }
     {
         self.groups.as_slice()
     }
 
-    /// Equal groups, with memory of their own. Costs O(numbers).
+    /// Returns equal groups, with memory of their own. Costs O(numbers).
     pub fn copy(&self) -> Result<Groups, AllocError>
         ensures { IfOk result (λ other. other ≡ self.now) }
     {
@@ -59,7 +59,7 @@ impl Groups {
         Ok(Groups { groups })
     }
 
-    /// Whether the numbers are numbers of replicas, 0 to 6, each at most once.
+    /// Returns whether each number is a replica's (0 to 6) and occurs at most once.
     pub fn are_apart(&self) -> bool
         ensures { IsTrue result ↔ AreGroups self.now }
     {
@@ -73,7 +73,7 @@ impl Groups {
     }
 }
 
-/// Marks the replicas with these numbers. Returns false if a number is not the number of a replica, or is marked already. Costs O(numbers).
+/// Marks the replicas with these numbers. Returns false if a number is not the number of a replica, or is already marked. Costs O(numbers).
 pub fn mark(numbers: &[u8], seen: &mut [bool]) -> bool
     requires { length seen.old ≡ 7 }
     ensures { (before : List ℕ) → HasSeen seen.old before → MatchBool result

@@ -1,9 +1,10 @@
-//! Events as they are spelled in texts.
-ghost use Rattle.std.specs.Prelude.{◌≡◌, ◌↔◌, option_map, IsTrue, IsErr, IfOk, IfErr, IsErrOf};
+//! The spelling of events in texts.
+ghost use Rattle.std.specs.Prelude.{◌≡◌, ◌↔◌, true, option_map, IsTrue, IsErr, IfOk, IfErr, IsErrOf};
 ghost use Rattle.std.specs.Option.{option_copied};
-ghost use Rattle.edn.specs.View.{value_of};
-ghost use Rattle.edn.specs.Value.{keyword};
-ghost use Rattle.events.specs.Spelling.{SpellsIndex, SpellsKind, SpellsProcess, SpellsName, SpellsPart, SpellsOp, text_of_fault, fault_by, MayTell, SpellsFault, SpellsBody, SpellsHead, SpellsAbout, Spells, WhyUnspelled, FindsAllowed};
+ghost use Rattle.edn_values.specs.View.{value_of};
+ghost use Rattle.edn_values.specs.Value.{keyword};
+ghost use Rattle.events.specs.Spelling.{SpellsIndex, SpellsKind, SpellsProcess, SpellsPart, SpellsGiven, SpellsOpBy, text_of_fault, fault_by, MayTell, SpellsFault, SpellsBodyBy, SpellsHead, SpellsAboutBy, SpellsBy, Spells, WhyUnspelledBy, WhyUnspelled, FindsAllowed};
+ghost use Rattle.events.specs.OwnNames.{own_by};
 ghost use Rattle.events.specs.Tables.{IsPartOf, IsFault, IsInTables};
 ghost use Rattle.events.specs.declared.event.Event.{Event};
 ghost use Rattle.events.specs.declared.event.Body.{Body};
@@ -16,9 +17,11 @@ use crate::collections::{are_groups, byte_of, count_of, groups_of, set_of};
 use crate::elements::{integers_of, key_of, number_of, two_of};
 use crate::event::{Body, Event, EventKind, Fault, Process};
 use crate::fault_kind::FaultKind;
+use crate::own_names::{name_of, puts_client};
 use crate::tables::{is_in_tables, takes_sets};
 use edn::{Edn, Refusal};
 use models::{Name, Op, Part};
+use object_names::Names;
 use std::alloc::{AllocError, Global};
 
 fn index_of(found: Option<&Edn>) -> Option<Option<u32>>
@@ -58,12 +61,6 @@ fn process_of(element: &Edn) -> Option<Process>
     Some(Process::Client(number_of(element)?))
 }
 
-fn operation_name_of(element: &Edn) -> Option<Name>
-    ensures { Finds result (SpellsName (value_of element.now)) }
-{
-    Name::of_text(element.as_keyword()?)
-}
-
 fn part_of(
     alloc: Global,
     kind: EventKind,
@@ -93,18 +90,53 @@ fn part_of(
     Ok(Some(Part::Set(members)))
 }
 
+// The part that the value spells behind its client.
+fn behind_client(client: u32, element: &Edn) -> Option<Part>
+    ensures { Finds result (SpellsGiven true client (value_of element.now)) }
+{
+    if element.is_nil() {
+        return Some(Part::Int(i64::from(client)));
+    }
+    let a = element.as_int()?;
+    Some(Part::Pair(i64::from(client), a))
+}
+
+// The part that the value spells, with the client before it if `puts`.
+fn given_of(
+    alloc: Global,
+    puts: bool,
+    client: u32,
+    kind: EventKind,
+    name: Name,
+    element: &Edn,
+) -> Result<Option<Part>, AllocError>
+    ensures found { IfOk result (λ found.
+        FindsAllowed found (SpellsGiven puts client (value_of element.now)) (IsPartOf kind name)) }
+    ensures memory_last { IsErr result →
+        (part : Part) × SpellsGiven puts client (value_of element.now) part × IsPartOf kind name part }
+{
+    if puts {
+        return Ok(behind_client(client, element));
+    }
+    part_of(alloc, kind, name, element)
+}
+
 fn operation_of(
     alloc: Global,
+    names: Option<&Names>,
     kind: EventKind,
+    client: u32,
     name: &Edn,
     value: &Edn,
 ) -> Result<Option<Op>, AllocError>
     ensures found { IfOk result (λ found. FindsAllowed found
-        (SpellsOp (value_of name.now) (value_of value.now)) (λ op. IsPartOf kind op.name op.part)) }
+        (SpellsOpBy (own_by (option_copied names.entry)) kind client (value_of name.now) (value_of value.now))
+        (λ op. IsPartOf kind op.name op.part)) }
     ensures memory_last { IsErr result → (op : Op)
-        × SpellsOp (value_of name.now) (value_of value.now) op × IsPartOf kind op.name op.part }
+        × SpellsOpBy (own_by (option_copied names.entry)) kind client (value_of name.now) (value_of value.now) op
+        × IsPartOf kind op.name op.part }
 {
-    let Some(name) = operation_name_of(name) else {
+    let Some(named) = name_of(names, name) else {
         return Ok(None);
     };
     let Some((key, part)) = two_of(value) else {
@@ -113,9 +145,11 @@ fn operation_of(
     let Some(key) = key_of(key) else {
         return Ok(None);
     };
-    let Some(part) = part_of(alloc, kind, name, part)? else {
+    let puts = puts_client(named.asks, kind);
+    let Some(part) = given_of(alloc, puts, client, kind, named.name, part)? else {
         return Ok(None);
     };
+    let name = named.name;
     Ok(Some(Op { name, key, part }))
 }
 
@@ -125,7 +159,7 @@ fn fault_kind_of(name: &Edn) -> Option<FaultKind>
     FaultKind::of_text(name.as_keyword()?)
 }
 
-// The fault of this kind that the value spells. A partition alone takes memory.
+// Returns the fault of this kind that the value spells, if it spells one. Allocates only for a partition.
 fn fault_by(alloc: Global, kind: FaultKind, value: &Edn) -> Result<Option<Fault>, AllocError>
     ensures found { IfOk result (λ found. found ≡ fault_by kind (value_of value.now)) }
     ensures partition { IsErr result → kind ≡ FaultKind.Partition }
@@ -141,7 +175,7 @@ fn fault_by(alloc: Global, kind: FaultKind, value: &Edn) -> Result<Option<Fault>
     }
 }
 
-// Whether the value spells groups that are apart, if the fault is a partition.
+// Returns whether the value spells groups without a common replica. Returns true for any value if the fault is not a partition.
 fn may_tell(kind: FaultKind, value: &Edn) -> bool
     ensures { IsTrue result ↔ MayTell kind (value_of value.now) }
 {
@@ -166,21 +200,36 @@ fn fault_of(alloc: Global, name: &Edn, value: &Edn) -> Result<Option<Fault>, All
     fault_by(alloc, kind, value)
 }
 
+// The body of an operation.
+fn client_body(op: Option<Op>) -> Option<Body>
+    ensures { result ≡ option_map Body.Op op }
+{
+    match op {
+        Some(op) => Some(Body::Op(op)),
+        None => None,
+    }
+}
+
 fn body_of(
     alloc: Global,
+    names: Option<&Names>,
     kind: EventKind,
     process: Process,
     name: &Edn,
     value: &Edn,
 ) -> Result<Option<Body>, AllocError>
     ensures found { IfOk result (λ found. FindsAllowed found
-        (SpellsBody process (value_of name.now) (value_of value.now)) (IsInTables kind process)) }
+        (SpellsBodyBy (own_by (option_copied names.entry)) kind process (value_of name.now) (value_of value.now))
+        (IsInTables kind process)) }
     ensures memory_last { IsErr result → (body : Body)
-        × SpellsBody process (value_of name.now) (value_of value.now) body
+        × SpellsBodyBy (own_by (option_copied names.entry)) kind process (value_of name.now) (value_of value.now) body
         × IsInTables kind process body }
 {
     match process {
-        Process::Client(_) => Ok(operation_of(alloc, kind, name, value)?.map(Body::Op)),
+        Process::Client(client) => {
+            let op = operation_of(alloc, names, kind, client, name, value)?;
+            Ok(client_body(op))
+        }
         Process::Nemesis => {
             if !matches!(kind, EventKind::Info) {
                 return Ok(None);
@@ -193,7 +242,7 @@ fn body_of(
     }
 }
 
-// The fields of an event's map, except for its subject.
+// The fields of an event's map, except for its operation or fault.
 #[derive(Clone, Copy)]
 struct Head {
     index: Option<u32>,
@@ -217,14 +266,17 @@ fn head_of(element: &Edn) -> Option<Head>
 
 fn about_of(
     alloc: Global,
+    names: Option<&Names>,
     kind: EventKind,
     process: Process,
     element: &Edn,
 ) -> Result<Option<Body>, AllocError>
     ensures found { IfOk result (λ found. FindsAllowed found
-        (SpellsAbout (value_of element.now) process) (IsInTables kind process)) }
+        (SpellsAboutBy (own_by (option_copied names.entry)) (value_of element.now) kind process)
+        (IsInTables kind process)) }
     ensures memory_last { IsErr result → (body : Body)
-        × SpellsAbout (value_of element.now) process body × IsInTables kind process body }
+        × SpellsAboutBy (own_by (option_copied names.entry)) (value_of element.now) kind process body
+        × IsInTables kind process body }
 {
     let Some(name) = element.get("f") else {
         return Ok(None);
@@ -232,17 +284,23 @@ fn about_of(
     let Some(value) = element.get("value") else {
         return Ok(None);
     };
-    body_of(alloc, kind, process, name, value)
+    body_of(alloc, names, kind, process, name, value)
 }
 
-fn event_of(alloc: Global, element: &Edn) -> Result<Option<Event>, AllocError>
-    ensures found { IfOk result (λ found. Finds found (Spells (value_of element.now))) }
-    ensures memory_last { IsErr result → (event : Event) × Spells (value_of element.now) event }
+fn event_of(
+    alloc: Global,
+    names: Option<&Names>,
+    element: &Edn,
+) -> Result<Option<Event>, AllocError>
+    ensures found { IfOk result (λ found.
+        Finds found (SpellsBy (own_by (option_copied names.entry)) (value_of element.now))) }
+    ensures memory_last { IsErr result → (event : Event)
+        × SpellsBy (own_by (option_copied names.entry)) (value_of element.now) event }
 {
     let Some(head) = head_of(element) else {
         return Ok(None);
     };
-    let Some(body) = about_of(alloc, head.kind, head.process, element)? else {
+    let Some(body) = about_of(alloc, names, head.kind, head.process, element)? else {
         return Ok(None);
     };
     if !is_in_tables(head.kind, head.process, &body) {
@@ -256,25 +314,42 @@ fn event_of(alloc: Global, element: &Edn) -> Result<Option<Event>, AllocError>
     }))
 }
 
-/// The event that a map of a text spells.
+/// Returns the event that a map of a text spells.
 ///
-/// The keys `:type`, `:process`, `:f` and `:value` must be there, `:index` may be, and other keys are ignored. An index and a client's
+/// The keys `:type`, `:process`, `:f` and `:value` are required, `:index` is optional, and other keys are ignored. An index and a client's
 /// process are 0 to 2^32 - 1. The value of a client's event is `[key part]`. A key is 0 to 65,535. The part is nil, an integer of 64 bits,
-/// a vector of two integers, or a set of integers in any order. The tables of events say which part a name may have. An event of `:nemesis`
+/// a vector of two integers, or a set of integers in any order. The tables of events define the parts of each name. An event of `:nemesis`
 /// is an `:info` with the name of a fault, and its value has the replicas of the fault.
 ///
-/// The time is that of one pass over the pairs, and of sorting the members of a set.
+/// Costs one pass over the pairs, and a sort of the members of a set.
 ///
 /// # Errors
-/// [`Refusal::BadValue`] if the element spells no event; [`Refusal::NoMemory`] last, if it spells one and a growth
-/// was refused.
+/// [`Refusal::BadValue`] if the element spells no event; otherwise [`Refusal::NoMemory`] if an allocation fails.
 pub fn from_edn(alloc: Global, element: &Edn) -> Result<Event, Refusal>
     ensures ok { IfOk result (Spells (value_of element.now)) }
     ensures refused { IfErr result (WhyUnspelled (value_of element.now)) }
     ensures memory_last { IsErrOf result Refusal.NoMemory →
         (event : Event) × Spells (value_of element.now) event }
 {
-    match event_of(alloc, element)? {
+    from_edn_with(alloc, None, element)
+}
+
+/// The event that a map of a text spells, as by [`from_edn`], if a file of rules gives these names.
+///
+/// An operation of an own name has nil, an integer, or a vector of two integers as its part, and an ok of it has any of them as its answer. If
+/// the name asks for the client, then the client's process is put before the part, except in an ok. Nil becomes the process, and an
+/// integer becomes the pair of the process and the integer.
+///
+/// # Errors
+/// Those of [`from_edn`].
+pub fn from_edn_with(alloc: Global, names: Option<&Names>, element: &Edn) -> Result<Event, Refusal>
+    ensures ok { IfOk result (SpellsBy (own_by (option_copied names.entry)) (value_of element.now)) }
+    ensures refused { IfErr result
+        (WhyUnspelledBy (own_by (option_copied names.entry)) (value_of element.now)) }
+    ensures memory_last { IsErrOf result Refusal.NoMemory → (event : Event)
+        × SpellsBy (own_by (option_copied names.entry)) (value_of element.now) event }
+{
+    match event_of(alloc, names, element)? {
         Some(event) => Ok(event),
         None => Err(Refusal::BadValue),
     }

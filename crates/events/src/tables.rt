@@ -1,4 +1,4 @@
-//! The tables of values that events may have.
+//! The tables of the values that events may have.
 ghost use Rattle.std.specs.Prelude.{◌↔◌, [], IsTrue};
 ghost use Rattle.models.specs.declared.operation.Part.TheVariants.{Set};
 ghost use Rattle.events.specs.Tables.{IsPart, IsOkPart, IsPartOf, IsFault, IsInTables, IsRepeat, Completes};
@@ -9,50 +9,53 @@ use models::{Name, Op, Part, each_name};
 use std::alloc::Global;
 use values::Members;
 
-// Whether the part is the one that the name's line has for an invocation.
+// Returns whether the part is the one that the line of the name has for an invocation.
 macro_rules! is_invoked {
     ($name:expr, $part:expr; $($N:ident $text:literal $P:ident $how:ident [$($A:ident)*]),*) => {
         match $name {
             $(Name::$N => matches!($part, Part::$P { .. }),)*
+            Name::Own(_) => !matches!($part, Part::Set(_)),
         }
     };
 }
 
-// Whether the part is one of those that the name's line has for an ok.
+// Returns whether the part is one of those that the line of the name has for an ok.
 macro_rules! is_answer {
     ($name:expr, $part:expr; $($N:ident $text:literal $P:ident $how:ident [$($A:ident)*]),*) => {
         match $name {
             $(Name::$N => matches!($part, $(Part::$A { .. })|*),)*
+            Name::Own(_) => !matches!($part, Part::Set(_)),
         }
     };
 }
 
-// Whether an ok of the name says what was found.
+// Returns whether an ok of the name has the found value.
 macro_rules! is_answered {
     ($name:expr; $($N:ident $text:literal $P:ident $how:ident [$($A:ident)*]),*) => {
         match $name {
             $(Name::$N => is_answered!($how),)*
+            Name::Own(_) => true,
         }
     };
     (answers) => { true };
     (repeats) => { false };
 }
 
-// Whether the part is one of an invocation, a fail or an info of this name.
+// Returns whether an invocation, a fail or an info of this name may have the part.
 fn is_part(name: Name, part: &Part) -> bool
     ensures { IsTrue result ↔ IsPart name part.now }
 {
     each_name!(is_invoked; name, part)
 }
 
-// Whether the part is one of an ok of this name.
+// Returns whether an ok of this name may have the part.
 fn is_ok_part(name: Name, part: &Part) -> bool
     ensures { IsTrue result ↔ IsOkPart name part.now }
 {
     each_name!(is_answer; name, part)
 }
 
-/// Whether the part is one that an event of this kind and name may have (this project's own table). Takes constant time.
+/// Returns whether an event of this kind and name may have the part (this project's own table). Takes constant time.
 pub fn is_part_of(kind: EventKind, name: Name, part: &Part) -> bool
     ensures { IsTrue result ↔ IsPartOf kind name part.now }
 {
@@ -62,7 +65,7 @@ pub fn is_part_of(kind: EventKind, name: Name, part: &Part) -> bool
     }
 }
 
-/// Whether an event of this kind and name may have a set. The members do not matter, so the test is of the empty set.
+/// Returns whether an event of this kind and name may have a set as its part. The members do not matter, so it tests the empty set.
 pub fn takes_sets(alloc: Global, kind: EventKind, name: Name) -> bool
     ensures { IsTrue result ↔ IsPartOf kind name (Set []) }
 {
@@ -84,7 +87,7 @@ fn is_fault(fault: &Fault) -> bool
     }
 }
 
-/// Whether an event of this kind and process may be about this. Costs O(a partition's groups).
+/// Returns whether an event of this kind and process may have this body. Costs O(groups of a partition).
 #[inline(always)]
 pub fn is_in_tables(kind: EventKind, process: Process, body: &Body) -> bool
     ensures { IsTrue result ↔ IsInTables kind process body.now }
@@ -101,14 +104,14 @@ pub fn is_in_tables(kind: EventKind, process: Process, body: &Body) -> bool
     }
 }
 
-// Whether the part of a completion is an answer, or the same as the part of the invocation.
+// Returns whether the part of a completion is the answer of an ok, or the same as the part of the invocation.
 fn repeats(kind: EventKind, invoked: &Part, op: &Op) -> bool
     ensures { IsTrue result ↔ IsRepeat kind op.now.name invoked.now op.now.part }
 {
     (matches!(kind, EventKind::Ok) && each_name!(is_answered; op.name)) || op.part.same(invoked)
 }
 
-/// Whether a completion of this kind and operation completes the invoked one.
+/// Returns whether a completion of this kind with the operation `op` completes the operation `invoked`.
 #[inline(always)]
 pub fn completes(kind: EventKind, invoked: &Op, op: &Op) -> bool
     ensures { IsTrue result ↔ Completes kind invoked.now op.now }

@@ -10,7 +10,7 @@ use Rattle.linspec.specs.Orders.{Pairwise}
 use Rattle.linspec.specs.Ends.{End, HasMoreThan}
 use Rattle.linspec.proofs.Counts.{more_ends}
 use Rattle.moves.specs.declared.pending_op.PendingOp.{PendingOp}
-use Rattle.frontier.specs.declared.frontier.Frontier.{Frontier}
+use Rattle.frontier.specs.declared.configurations.Configurations.{Configurations}
 use Rattle.moves.specs.declared.table.Table.{Table}
 use Rattle.moves.specs.declared.kept_end.KeptEnd.{KeptEnd}
 use Rattle.moves.specs.KeptEnds.{AreIncluded, ArePending, end_kept}
@@ -33,7 +33,7 @@ use Rattle.frontier.proofs.TheEnds.{AreTheEnds}
 abbrev pub asked : List PendingOp → ℕ → ℕ → ℕ → Answer → Asked
 asked calls tried budget id answer = record { calls = calls; tried = tried; budget = budget; id = id; answer = answer }
 
-module _ {M : Type 0} (o : Object) (f : Frontier M o.State) (marks : List Mark) (stands : Lists o f marks) (budget : ℕ) where
+module _ {M : Type 0} (o : Object) (f : Configurations M o.State) (marks : List Mark) (stands : Lists o f marks) (budget : ℕ) where
   -- there are more than the budget
   pub too_many : ReachesMoreThan o f.calls.items stands.kept budget → HasMoreThan o marks budget
   too_many more = more_found o stands.kept f.calls.items marks stands.ends budget more
@@ -55,7 +55,7 @@ module _ {M : Type 0} (o : Object) (f : Frontier M o.State) (marks : List Mark) 
     pub generates_left : Generates o found.left.more (marks ++ Returned id answer ∷ [])
     generates_left = generates_all o found.left.more (marks ++ Returned id answer ∷ []) after
 
-    pub stands_after : (g : Frontier M o.State) → (table_of g) ≡ t → g.calls.items ≡ filter (is_other id) f.calls.items → g.tried ≡ length f.calls.items - 1 → Lists o g (marks ++ Returned id answer ∷ [])
+    pub stands_after : (g : Configurations M o.State) → (table_of g) ≡ t → g.calls.items ≡ filter (is_other id) f.calls.items → g.tried ≡ length f.calls.items - 1 → Lists o g (marks ++ Returned id answer ∷ [])
     stands_after g table calls_are tried =
         stands_by o g (marks ++ Returned id answer ∷ []) found.left.more
         (subst (λ l. AreShown (table_of g) l found.left.more) (sym calls_are) (subst (λ u. AreShown u (filter (is_other id) f.calls.items) found.left.more) (sym table) found.left.shown))
@@ -71,12 +71,12 @@ module _ {M : Type 0} (o : Object) (f : Frontier M o.State) (marks : List Mark) 
         (closed_after_ok o f.calls.items stands.kept found.all found.left.more id answer found.adds found.left.adds)))
 
 -- a fail leaves these
-module _ {M : Type 0} (o : Object) (f : Frontier M o.State) (marks : List Mark) (stands : Lists o f marks) (t : Table o.State) (id : ℕ) (is_open : IsOpen marks id)
+module _ {M : Type 0} (o : Object) (f : Configurations M o.State) (marks : List Mark) (stands : Lists o f marks) (t : Table o.State) (id : ℕ) (is_open : IsOpen marks id)
     (failed : ShownWith t (filter (is_other id) f.calls.items) [] (Along (Fails id) stands.kept)) where
   pub generates_failed : Generates o failed.more (marks ++ Failed id ∷ [])
   generates_failed = generates_after_fail o stands.kept marks id is_open (generates_of o f marks stands) failed.more failed.adds
 
-  pub stands_failed : (g : Frontier M o.State) → (table_of g) ≡ t → g.calls.items ≡ filter (is_other id) f.calls.items → g.tried ≡ f.tried - 1 → Lists o g (marks ++ Failed id ∷ [])
+  pub stands_failed : (g : Configurations M o.State) → (table_of g) ≡ t → g.calls.items ≡ filter (is_other id) f.calls.items → g.tried ≡ f.tried - 1 → Lists o g (marks ++ Failed id ∷ [])
   stands_failed g table calls_are tried =
       let left = filter (is_other id) f.calls.items in
       let once = stands.well_kept.calls_once in
@@ -91,7 +91,7 @@ module _ {M : Type 0} (o : Object) (f : Frontier M o.State) (marks : List Mark) 
       (closed_after_fail id o f.calls.items once f.tried g.tried tried stands.kept failed.more failed.adds stands.closed))
 
 -- in the words of the code, which reads the calls as a slice
-module _ {M : Type 0} (o : Object) (f : Frontier M o.State) (marks : List Mark) (stands : Lists o f marks) (calls : List PendingOp) (same : calls ≡ f.calls.items) where
+module _ {M : Type 0} (o : Object) (f : Configurations M o.State) (marks : List Mark) (stands : Lists o f marks) (calls : List PendingOp) (same : calls ≡ f.calls.items) where
   calls_once : HasEachOnce calls
   calls_once = subst HasEachOnce (sym same) stands.well_kept.calls_once
 
@@ -119,7 +119,7 @@ module _ {M : Type 0} (o : Object) (f : Frontier M o.State) (marks : List Mark) 
   kept_ends items h = h calls_once stands.kept its_rows
 
 -- the cost of an ok, from the count of steps before it and after it
-pub ok_costs : {M : Type 0} (o : Object) (f g : Frontier M o.State) (after : ℕ) → Keeps (StandsFor o f) (IsListed o g) → g.budget ≡ f.budget → g.applied ≡ f.applied → g.applied ≤ after → after ≤ g.applied + (g.budget + 1) * length g.calls.items
+pub ok_costs : {M : Type 0} (o : Object) (f g : Configurations M o.State) (after : ℕ) → Keeps (StandsFor o f) (IsListed o g) → g.budget ≡ f.budget → g.applied ≡ f.applied → g.applied ≤ after → after ≤ g.applied + (g.budget + 1) * length g.calls.items
     → StepsOfOk f.budget (StandsFor o f) f.applied after
 ok_costs o f g after listed budget applied rises cost = (
   subst (λ a. a ≤ after) applied rises,

@@ -10,3 +10,4 @@ pub mod Lengthening
 pub mod Placing
 pub mod Preparing
 pub mod Judging
+pub mod ByRules

@@ -12,7 +12,7 @@ use Rattle.ends.proofs.Closing.{tried_still}
 use Rattle.products.specs.Products.{Family, rows_in}
 use Rattle.frontier.specs.declared.product_form.ProductForm.{ProductForm}
 use Rattle.frontier.specs.declared.change.Fresh.{Fresh}
-use Rattle.frontier.specs.declared.frontier.Frontier.{Frontier}
+use Rattle.frontier.specs.declared.configurations.Configurations.{Configurations}
 use Rattle.frontier.specs.Kept.{IsIdle, IsListed, call_of, rows_by, table_of}
 use Rattle.frontier.proofs.Generating.{generates_after_invoke}
 use Rattle.frontier.proofs.Including.{included_more}
@@ -41,7 +41,7 @@ products_are_longer form held kept more is same longer rows =
     ∙ ap (λ p. map (λ row. row ++ 0 ∷ []) (rows_by p rows)) (sym is)
 
 -- a frontier where the rows have the place, and the calls have room
-module _ {M : Type 0} (o : Object) (reads : ReadsLeave o) (f g : Frontier M o.State) (fresh : Fresh) (is : f.fresh ≡ Some fresh)
+module _ {M : Type 0} (o : Object) (reads : ReadsLeave o) (f g : Configurations M o.State) (fresh : Fresh) (is : f.fresh ≡ Some fresh)
     (rows : List (List ℕ)) (longer : AreLonger (rows_of (table_of f)) rows) (table : table_of g ≡ with_rows (table_of f) rows)
     (all : g.calls.items ≡ f.calls.items ++ call_of fresh ∷ []) (so_many : g.tried ≡ f.tried) (none : g.fresh ≡ None) (next : g.next ≡ f.next) where
   pub listed_longer : (marks : List Mark) → IsIdle o f marks → IsListed o g marks

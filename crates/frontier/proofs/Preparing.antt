@@ -9,7 +9,7 @@ use Rattle.linspec.specs.Ends.{Count}
 use Rattle.frontier.specs.declared.change.Change.{Change}
 use Rattle.frontier.specs.declared.change.Change.TheVariants.{Nothing, Invoked as ToInvoked}
 use Rattle.frontier.specs.declared.change.Fresh.{Fresh}
-use Rattle.frontier.specs.declared.frontier.Frontier.{Frontier}
+use Rattle.frontier.specs.declared.configurations.Configurations.{Configurations}
 use Rattle.judging.specs.declared.step.Step.{Step}
 use Rattle.moves.specs.declared.pending_op.PendingOp.{PendingOp}
 use Rattle.moves.specs.declared.table.Table.{Table}
@@ -19,7 +19,7 @@ use Rattle.moves.specs.Tables.{AreShown, Widens, rows_of}
 use Rattle.moves.proofs.Showing.{shown_more}
 use Rattle.frontier.proofs.Standing.{stands_too}
 
-module _ {M : Type 0} (o : Object) (f g : Frontier M o.State) where
+module _ {M : Type 0} (o : Object) (f g : Configurations M o.State) where
   -- the same rows, calls and tried calls
   pub lists_like : (table_of g) ≡ (table_of f) → g.calls.items ≡ f.calls.items → g.tried ≡ f.tried → (marks : List Mark) → Lists o f marks → Lists o g marks
   lists_like table calls tried marks l = stands_too o f marks g calls tried l (subst (λ t. AreShown t f.calls.items l.kept) (sym table) l.shown)
@@ -49,7 +49,7 @@ module _ {M : Type 0} (o : Object) (f g : Frontier M o.State) where
   pub idle_still : IsOf g (table_of f) f.calls.items f.tried f.fresh → g.next ≡ f.next → (marks : List Mark) → IsIdle o f marks → IsIdle o g marks
   idle_still is next marks idle = idle_like is (next ∙ idle.nothing) marks idle.stands
 
-module _ {M : Type 0} (o : Object) (f : Frontier M o.State) (marks : List Mark) where
+module _ {M : Type 0} (o : Object) (f : Configurations M o.State) (marks : List Mark) where
   pub listed_stands : f.fresh ≡ None → Lists o f marks → StandsFor o f marks
   listed_stands none l = record { stands = subst (λ x. StandsWith o f x marks) (sym none) l }
 
@@ -77,8 +77,8 @@ module _ {M : Type 0} (o : Object) (f : Frontier M o.State) (marks : List Mark) 
   }
 
   -- another event is
-  pub will_by : (next : Change) → f.next ≡ next → f.fresh ≡ None → (table : Table o.State) (calls : List PendingOp) (tried : ℕ) → ((g : Frontier M o.State) → Makes next f g → IsOf g table calls tried f.fresh)
-      → ((g : Frontier M o.State) → (table_of g) ≡ table → g.calls.items ≡ calls → g.tried ≡ tried → Lists o g marks) → WillStandFor o f marks
+  pub will_by : (next : Change) → f.next ≡ next → f.fresh ≡ None → (table : Table o.State) (calls : List PendingOp) (tried : ℕ) → ((g : Configurations M o.State) → Makes next f g → IsOf g table calls tried f.fresh)
+      → ((g : Configurations M o.State) → (table_of g) ≡ table → g.calls.items ≡ calls → g.tried ≡ tried → Lists o g marks) → WillStandFor o f marks
   will_by next is none table calls tried made lists = record {
     will = λ g makes.
         let m = made g (subst (λ n. Makes n f g) is makes) in
@@ -86,18 +86,18 @@ module _ {M : Type 0} (o : Object) (f : Frontier M o.State) (marks : List Mark) 
   }
 
 -- where more stands in the table, but no more rows
-pub listed_more : {M : Type 0} (o : Object) (f g : Frontier M o.State) (marks : List Mark) → IsOf g (table_of g) f.calls.items f.tried f.fresh → Widens (table_of f) (table_of g) → rows_of (table_of g) ≡ rows_of (table_of f) → g.next ≡ f.next → IsListed o f marks → IsListed o g marks
+pub listed_more : {M : Type 0} (o : Object) (f g : Configurations M o.State) (marks : List Mark) → IsOf g (table_of g) f.calls.items f.tried f.fresh → Widens (table_of f) (table_of g) → rows_of (table_of g) ≡ rows_of (table_of f) → g.next ≡ f.next → IsListed o f marks → IsListed o g marks
 listed_more o f g marks is widens rows next l = record { nothing = next ∙ l.nothing; none = is.3 ∙ l.none; lists = lists_more o f g is.1 is.2 widens rows marks l.lists }
 
 -- where what is idle stays so
-pub listed_again : {M : Type 0} (o : Object) (f g : Frontier M o.State) (marks : List Mark) → Keeps (IsIdle o f) (IsIdle o g) → g.fresh ≡ f.fresh → IsListed o f marks → IsListed o g marks
+pub listed_again : {M : Type 0} (o : Object) (f g : Configurations M o.State) (marks : List Mark) → Keeps (IsIdle o f) (IsIdle o g) → g.fresh ≡ f.fresh → IsListed o f marks → IsListed o g marks
 listed_again o f g marks keeps fresh l = listed_of o g marks (keeps marks (idle_of o f marks l)) (fresh ∙ l.none)
 
-pub lists_is : {M : Type 0} (o : Object) (f : Frontier M o.State) (marks before : List Mark) → marks ≡ before → Lists o f before → Lists o f marks
+pub lists_is : {M : Type 0} (o : Object) (f : Configurations M o.State) (marks before : List Mark) → marks ≡ before → Lists o f before → Lists o f marks
 lists_is o f marks before is l = subst (Lists o f) (sym is) l
 
 -- the prepared change is carried out
-pub made_by : {M : Type 0} (o : Object) (f g : Frontier M o.State) (marks : List Mark) (next : Change) → next ≡ f.next → Makes next f g → WillStandFor o f marks → StandsFor o g marks
+pub made_by : {M : Type 0} (o : Object) (f g : Configurations M o.State) (marks : List Mark) (next : Change) → next ≡ f.next → Makes next f g → WillStandFor o f marks → StandsFor o g marks
 made_by o f g marks next is made w = w.will g (subst (λ n. Makes n f g) is made)
 
 -- where the calls take the fresh one, and if they do not

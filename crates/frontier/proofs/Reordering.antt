@@ -17,7 +17,7 @@ use Rattle.products.specs.Products.{IsInOne, rows_in}
 use Rattle.product_ends.proofs.RowsIn.{contains_rows_in}
 use Rattle.product_ends.proofs.Saying.{reordered}
 use Rattle.frontier.specs.declared.product_form.ProductForm.{ProductForm}
-use Rattle.frontier.specs.declared.frontier.Frontier.{Frontier}
+use Rattle.frontier.specs.declared.configurations.Configurations.{Configurations}
 use Rattle.frontier.specs.Kept.{IsIdle, Lists, rows_by, table_of}
 use Rattle.frontier.proofs.Preparing.{stands_to}
 use Rattle.frontier.proofs.Standing.{generates_of, stands_shown}
@@ -31,7 +31,7 @@ once_in (y ∷ ys) once (suc i) zero x h k = absurd (once.0 x (has_place ys i x 
 once_in (y ∷ ys) once (suc i) (suc j) x h k = ap suc (once_in ys once.1 i j x h k)
 
 -- a frontier with the same ends in another order
-module _ {M : Type 0} (o : Object) (f g : Frontier M o.State) (calls : g.calls.items ≡ f.calls.items) (tried : g.tried ≡ f.tried)
+module _ {M : Type 0} (o : Object) (f g : Configurations M o.State) (calls : g.calls.items ≡ f.calls.items) (tried : g.tried ≡ f.tried)
     (again : (ends : List (End o.State)) → AreShown (table_of f) f.calls.items ends → ShownWith (table_of g) f.calls.items [] (Along IsThat ends)) where
   pub lists_again : (marks : List Mark) → Lists o f marks → Lists o g marks
   lists_again marks l =

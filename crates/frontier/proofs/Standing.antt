@@ -5,7 +5,7 @@ use Rattle.events.specs.Events.{Mark}
 use Rattle.linspec.specs.Orders.{Pairwise}
 use Rattle.moves.specs.declared.pending_op.PendingOp.{PendingOp}
 use Rattle.moves.specs.declared.kept_end.KeptEnd.{KeptEnd}
-use Rattle.frontier.specs.declared.frontier.Frontier.{Frontier}
+use Rattle.frontier.specs.declared.configurations.Configurations.{Configurations}
 use Rattle.judging.specs.declared.step.Step.{Step}
 use Rattle.judging.specs.declared.step.Step.TheVariants.{Alive, Dead, Over}
 use Rattle.moves.specs.KeptEnds.{AreIncluded, ArePending, IsIncluded, IsWellKept, end_kept}
@@ -31,7 +31,7 @@ use Rattle.moves.specs.EndSteps.{Adds, Along, AreClosed, IsReached}
 use Rattle.frontier.proofs.Including.{included_more}
 use Rattle.frontier.proofs.Generating.{Generates, generates_by, reached_by, none_left, some_left}
 
-module _ {M : Type 0} (o : Object) (f : Frontier M o.State) (marks : List Mark) where
+module _ {M : Type 0} (o : Object) (f : Configurations M o.State) (marks : List Mark) where
   pub generates_of : (stands : Lists o f marks) → Generates o stands.kept marks
   generates_of stands = generates_by o stands.kept f.calls.items marks stands.well_kept.pending stands.ends
 
@@ -47,7 +47,7 @@ module _ {M : Type 0} (o : Object) (f : Frontier M o.State) (marks : List Mark) 
   }
 
   -- one that shows the same ends, of the same calls, stands for the same
-  pub stands_too : (g : Frontier M o.State) → g.calls.items ≡ f.calls.items → g.tried ≡ f.tried → (stands : Lists o f marks) → AreShown (table_of g) f.calls.items stands.kept → Lists o g marks
+  pub stands_too : (g : Configurations M o.State) → g.calls.items ≡ f.calls.items → g.tried ≡ f.tried → (stands : Lists o f marks) → AreShown (table_of g) f.calls.items stands.kept → Lists o g marks
   stands_too g same tried stands shown = record {
     kept = stands.kept;
     shown = subst (λ l. AreShown (table_of g) l stands.kept) (sym same) shown;
@@ -70,7 +70,7 @@ module _ (o : Object) (ends first : List (End o.State)) (adds : Adds (Along IsTh
 
 module _ {M : Type 0} (o : Object) where
   -- one whose rows say ends in some order
-  pub stands_shown : (g : Frontier M o.State) (marks : List Mark) (ends : List (End o.State)) (calls : List PendingOp) → g.calls.items ≡ calls → ShownWith (table_of g) calls [] (Along IsThat ends) → Generates o ends marks → ArePending calls marks
+  pub stands_shown : (g : Configurations M o.State) (marks : List Mark) (ends : List (End o.State)) (calls : List PendingOp) → g.calls.items ≡ calls → ShownWith (table_of g) calls [] (Along IsThat ends) → Generates o ends marks → ArePending calls marks
       → Pairwise (λ (c d : PendingOp). c.id ≢ d.id) calls → AreIncluded calls ends → g.tried ≤ length calls → AreClosed o (take g.tried calls) ends → Lists o g marks
   stands_shown g marks ends calls is s gen pending once included tried closed =
       stands_by o g marks s.more (subst (λ l. AreShown (table_of g) l s.more) (sym is) s.shown) (generates_again o ends s.more s.adds marks gen) (s.adds.once tt)

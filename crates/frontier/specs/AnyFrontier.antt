@@ -1,10 +1,14 @@
--- Promise: a frontier of any kind, seen as that of its kind's object
+-- Promise: a frontier of any kind, seen as a frontier of its kind's object
 use Rattle.models.specs.Objects.{register, cas_register, mutex, fifo_queue, set_of_numbers, unordered_queue}
 use Rattle.kinds.specs.declared.model_kind.ModelKind.{ModelKind}
 use Rattle.kinds.specs.declared.model_kind.ModelKind.TheVariants as kinds
 use Rattle.frontier.specs.declared.any_frontier.AnyFrontier.{AnyFrontier}
-use Rattle.frontier.specs.declared.any_frontier.AnyFrontier.TheVariants.{Register, CasRegister, Mutex, FifoQueue, Set, UnorderedQueue, WideRegister, WideCasRegister, WideSet, WideFifoQueue, WideUnorderedQueue}
-use Rattle.frontier.specs.Kept.{view_of}
+use Rattle.frontier.specs.declared.any_frontier.AnyFrontier.TheVariants.{Register, CasRegister, Mutex, FifoQueue, Set, UnorderedQueue, WideRegister, WideCasRegister, WideSet, WideFifoQueue, WideUnorderedQueue, Own}
+use Rattle.kinds.specs.Kinds.{object_of}
+use Rattle.std.specs.Prelude.{ℤ, List, Option}
+use Rattle.objects.specs.declared.own.Own.{Own as OwnSpecification}
+use Rattle.frontier.specs.declared.specified.SpecifiedFrontier.{SpecifiedFrontier}
+use Rattle.frontier.specs.Frontiers.{view_of, view_of_specified}
 use Rattle.judging.specs.Meaning.{FrontierView}
 use Rattle.wide_register.specs.Views as wide_register
 use Rattle.wide_cas_register.specs.Views as wide_cas_register
@@ -24,8 +28,13 @@ kind_of_frontier (WideCasRegister f) = kinds.WideCasRegister
 kind_of_frontier (WideSet f) = kinds.WideSet
 kind_of_frontier (WideFifoQueue f) = kinds.WideFifoQueue
 kind_of_frontier (WideUnorderedQueue f) = kinds.WideUnorderedQueue
+kind_of_frontier (Own f) = kinds.Own f.value.specification.object
 
--- the state of the frontier
+-- the view of the frontier of an object by rules
+abbrev pub view_by_rules : SpecifiedFrontier OwnSpecification (List (Option ℤ)) → FrontierView
+view_by_rules f = view_of_specified (object_of (kinds.Own f.specification.object)) f
+
+-- the view of the frontier
 abbrev pub any_view_of : AnyFrontier → FrontierView
 any_view_of (Register f) = view_of register f.value
 any_view_of (CasRegister f) = view_of cas_register f.value
@@ -38,3 +47,4 @@ any_view_of (WideCasRegister f) = wide_cas_register.view_of f.value
 any_view_of (WideSet f) = wide_set.view_of f.value
 any_view_of (WideFifoQueue f) = wide_fifo_queue.view_of f.value
 any_view_of (WideUnorderedQueue f) = wide_unordered_queue.view_of f.value
+any_view_of (Own f) = view_by_rules f.value

@@ -4,10 +4,14 @@ ghost use Rattle.models.specs.Objects.{of_table};
 ghost use Rattle.kinds.specs.Kinds.{object_of};
 ghost use Rattle.linspec.specs.Counts.{CountsMoreThan};
 ghost use Rattle.frontier.specs.AnyFrontier.{any_view_of, kind_of_frontier};
-ghost use Rattle.frontier.specs.Kept.{view_of};
+ghost use Rattle.frontier.specs.Frontiers.{view_of};
 ghost use Rattle.judging.specs.Meaning.{Commits, IsCopy, IsStart, Observes, Prepares, mark_by};
 
+use crate::by_rules::{
+    commit_by_rules, copy_by_rules, observe_by_rules, prepare_by_rules, start_by_rules,
+};
 use crate::frontier::Frontier;
+use crate::specified::SpecifiedFrontier;
 use crate::wide::{
     observe_wide_cas_register, observe_wide_fifo_queue, observe_wide_register, observe_wide_set,
     observe_wide_unordered_queue, prepare_wide_cas_register, prepare_wide_fifo_queue,
@@ -17,6 +21,7 @@ use events::EventKind;
 use judging::Step;
 use kinds::{ModelKind, each_kind_with_ends};
 use models::{CasRegister, FifoQueue, Mutex, Op, Register, SeqObject, Set, UnorderedQueue};
+use objects::Own;
 use std::alloc::{AllocError, Global};
 use wide_cas_register::WideCasRegister;
 use wide_fifo_queue::WideFifoQueue;
@@ -24,35 +29,37 @@ use wide_register::WideRegister;
 use wide_set::WideSet;
 use wide_unordered_queue::WideUnorderedQueue;
 
-/// The judge of one key's history, for a key whose kind is known only as the program runs: a [`Frontier`] of that kind, or the judge of a
-/// wide kind.
+/// The judge of one key's history, whose kind is known only at run time. It is a [`Frontier`] of a plain kind, the judge of a wide kind,
+/// or a [`SpecifiedFrontier`] of an object by rules.
 #[derive(Drop)]
 pub enum AnyFrontier {
-    /// Of a register.
+    /// The frontier of a register.
     Register(Box<Frontier<Register>>),
-    /// For a register that also has compare and set.
+    /// The frontier of a register that also has compare and set.
     CasRegister(Box<Frontier<CasRegister>>),
-    /// Of a mutex.
+    /// The frontier of a mutex.
     Mutex(Box<Frontier<Mutex>>),
-    /// Of a queue.
+    /// The frontier of a FIFO queue.
     FifoQueue(Box<Frontier<FifoQueue>>),
-    /// Of a set.
+    /// The frontier of a set.
     Set(Box<Frontier<Set>>),
-    /// For a queue without an order.
+    /// The frontier of an unordered queue.
     UnorderedQueue(Box<Frontier<UnorderedQueue>>),
-    /// For a register whose lean ends are counted.
+    /// The judge of a register, which counts lean ends.
     WideRegister(Box<WideRegister>),
-    /// For a register with compare and set whose fronts are counted.
+    /// The judge of a register with compare and set, which counts fronts.
     WideCasRegister(Box<WideCasRegister>),
-    /// For a set: it counts nothing.
+    /// The judge of a set, which counts nothing.
     WideSet(Box<WideSet>),
-    /// For a wide queue: only equal values are counted.
+    /// The judge of a FIFO queue, which counts only equal values.
     WideFifoQueue(Box<WideFifoQueue>),
-    /// For a queue without an order: it counts nothing.
+    /// The judge of an unordered queue, which counts nothing.
     WideUnorderedQueue(Box<WideUnorderedQueue>),
+    /// The frontier of an object by rules.
+    Own(Box<SpecifiedFrontier<Own>>),
 }
 
-// The bodies below, for each kind of the list, and for the wide ones.
+// The bodies of the functions below, with a case for each kind in the list and for each wide kind.
 macro_rules! start_of {
     ($kind:expr, $alloc:expr, $budget:expr; $($K:ident $name:literal),*) => {
         match $kind {
@@ -72,6 +79,7 @@ macro_rules! start_of {
             ModelKind::WideUnorderedQueue => {
                 Ok(AnyFrontier::WideUnorderedQueue(Box::new($alloc, WideUnorderedQueue::start($alloc, $budget))?))
             }
+            ModelKind::Own(object) => Ok(AnyFrontier::Own(start_by_rules($alloc, object, $budget)?)),
         }
     };
 }
@@ -95,6 +103,7 @@ macro_rules! copy_of {
             AnyFrontier::WideUnorderedQueue(judge) => {
                 Ok(AnyFrontier::WideUnorderedQueue(Box::new(*Box::allocator(judge), judge.copy()?)?))
             }
+            AnyFrontier::Own(frontier) => Ok(AnyFrontier::Own(copy_by_rules(frontier)?)),
         }
     };
 }
@@ -108,6 +117,7 @@ macro_rules! applied_of {
             AnyFrontier::WideSet(judge) => judge.applied(),
             AnyFrontier::WideFifoQueue(judge) => judge.applied(),
             AnyFrontier::WideUnorderedQueue(judge) => judge.applied(),
+            AnyFrontier::Own(frontier) => frontier.applied(),
         }
     };
 }
@@ -121,6 +131,7 @@ macro_rules! observe_of {
             AnyFrontier::WideSet(judge) => observe_wide_set(judge, $id, $event, $op),
             AnyFrontier::WideFifoQueue(judge) => observe_wide_fifo_queue(judge, $id, $event, $op),
             AnyFrontier::WideUnorderedQueue(judge) => observe_wide_unordered_queue(judge, $id, $event, $op),
+            AnyFrontier::Own(frontier) => observe_by_rules(frontier, $id, $event, $op),
         }
     };
 }
@@ -134,6 +145,7 @@ macro_rules! prepare_of {
             AnyFrontier::WideSet(judge) => prepare_wide_set(judge, $id, $event, $op),
             AnyFrontier::WideFifoQueue(judge) => prepare_wide_fifo_queue(judge, $id, $event, $op),
             AnyFrontier::WideUnorderedQueue(judge) => prepare_wide_unordered_queue(judge, $id, $event, $op),
+            AnyFrontier::Own(frontier) => prepare_by_rules(frontier, $id, $event, $op),
         }
     };
 }
@@ -147,11 +159,12 @@ macro_rules! commit_of {
             AnyFrontier::WideSet(judge) => judge.commit(),
             AnyFrontier::WideFifoQueue(judge) => judge.commit(),
             AnyFrontier::WideUnorderedQueue(judge) => judge.commit(),
+            AnyFrontier::Own(frontier) => commit_by_rules(frontier),
         }
     };
 }
 
-// A frontier of one kind at its start. It is a function of its own, so that its stack frame has no room for the other kinds.
+// Returns a frontier of one kind at its start. It is a separate function, so its stack frame has no room for the other kinds.
 #[inline(never)]
 fn started<M: SeqObject>(alloc: Global, budget: u32) -> Result<Box<Frontier<M>>, AllocError>
     ensures { let object = of_table M.State M.start_state M.apply_to in
@@ -160,7 +173,7 @@ fn started<M: SeqObject>(alloc: Global, budget: u32) -> Result<Box<Frontier<M>>,
     Ok(Box::new(alloc, Frontier::<M>::start(alloc, budget)?)?)
 }
 
-// A copy of a frontier of one kind, likewise.
+// Returns a copy of a frontier of one kind. It is a separate function, so its stack frame has no room for the other kinds.
 #[inline(never)]
 fn copied<M: SeqObject>(frontier: &Frontier<M>) -> Result<Box<Frontier<M>>, AllocError>
     ensures { let object = of_table M.State M.start_state M.apply_to in
@@ -170,8 +183,8 @@ fn copied<M: SeqObject>(frontier: &Frontier<M>) -> Result<Box<Frontier<M>>, Allo
 }
 
 impl AnyFrontier {
-    /// The frontier of a history without events of an object of this kind. The budget is the greatest number of ends that an ok may
-    /// meet. Takes constant time.
+    /// Returns the frontier of a history without events of an object of this kind. `budget` is the maximum number of ends just before an
+    /// ok. Takes constant time.
     pub fn start(alloc: Global, kind: ModelKind, budget: u32) -> Result<Self, AllocError>
         ensures started { IfOk result (λ f. IsStart budget (any_view_of f)) }
         ensures kind { IfOk result (λ f. kind_of_frontier f ≡ kind) }
@@ -179,10 +192,10 @@ impl AnyFrontier {
         each_kind_with_ends!(start_of; kind, alloc, budget)
     }
 
-    /// Observes an event of an operation, as [`Frontier::observe`] does, at its cost. `id` is the index of the operation's invocation: a
-    /// new one for an invocation, else the index of an open operation. The part of an ok is the answer. Returns Over if the event is an ok
-    /// and there are more ends than the budget just before it. Then, and on `AllocError`, the frontier keeps its meaning. An invocation and
-    /// an info are answered Alive, since they remove no end.
+    /// Observes an event of an operation, like [`Frontier::observe`] and at its cost. `id` is the index of the operation's invocation: a
+    /// new one for an invocation, and otherwise that of an open operation. The part of an ok is the answer. Returns Over if the event is an
+    /// ok and the ends just before it outnumber the budget. After Over and `AllocError` the frontier represents the same histories as
+    /// before. Returns Alive for an invocation and an info, since they remove no end.
     pub fn observe(&mut self, id: u32, kind: EventKind, op: &Op) -> Result<Step, AllocError>
         ensures observed { Observes (any_view_of self.old) (any_view_of self.new)
             (CountsMoreThan (kind_of_frontier self.old)) (object_of (kind_of_frontier self.old))
@@ -192,9 +205,9 @@ impl AnyFrontier {
         each_kind_with_ends!(observe_of; self, id, kind, op)
     }
 
-    /// Prepares an event of an operation, and gives its answer: [`Frontier::prepare`], at its cost. The frontier keeps its meaning until
-    /// [`commit`](Self::commit). After Over nothing is prepared; after `AllocError` no commit must follow. A change that was prepared
-    /// before is dropped.
+    /// Prepares an event of an operation, and returns its answer, like [`Frontier::prepare`] and at its cost. Until
+    /// [`commit`](Self::commit) the frontier represents the same histories. After Over nothing is prepared. Do not call `commit` after
+    /// `AllocError`. Drops a change that was prepared before.
     pub fn prepare(&mut self, id: u32, kind: EventKind, op: &Op) -> Result<Step, AllocError>
         ensures prepared { Prepares (any_view_of self.old) (any_view_of self.new)
             (CountsMoreThan (kind_of_frontier self.old)) (object_of (kind_of_frontier self.old))
@@ -204,7 +217,7 @@ impl AnyFrontier {
         each_kind_with_ends!(prepare_of; self, id, kind, op)
     }
 
-    /// Carries out what is prepared, if anything is: [`Frontier::commit`]. It takes no memory and cannot fail.
+    /// Carries out the prepared change, if there is one, like [`Frontier::commit`]. Does not allocate and cannot fail.
     pub fn commit(&mut self)
         ensures committed { Commits (any_view_of self.old) (any_view_of self.new) }
         ensures kind { kind_of_frontier self.new ≡ kind_of_frontier self.old }
@@ -212,15 +225,15 @@ impl AnyFrontier {
         each_kind_with_ends!(commit_of; self)
     }
 
-    /// How many steps were made so far: [`Frontier::applied`].
+    /// Returns the number of steps so far, like [`Frontier::applied`].
     pub fn applied(&self) -> u64
         ensures { result ≡ (any_view_of self.now).applied }
     {
         each_kind_with_ends!(applied_of; self)
     }
 
-    /// An equal frontier, which shares the items of queues and the members that were found; nothing is prepared of it: [`Frontier::copy`].
-    /// Costs O(calls + rows or products + states + answers).
+    /// Returns an equal frontier with nothing prepared, like [`Frontier::copy`]. It shares the items of queues and the members of found
+    /// sets. Costs O(calls + rows or products + states + found values).
     pub fn copy(&self) -> Result<Self, AllocError>
         ensures copied { IfOk result (λ f. IsCopy (any_view_of self.now) (any_view_of f)) }
         ensures kind { IfOk result (λ f. kind_of_frontier f ≡ kind_of_frontier self.now) }

@@ -1,4 +1,4 @@
-//! Changes of a frontier that are prepared.
+//! Prepared changes of a frontier.
 ghost use Rattle.std.specs.Prelude.{◌≡◌, IfOk};
 
 use ends::{PendingOp, Table};
@@ -6,36 +6,36 @@ use models::Op;
 use std::alloc::AllocError;
 use std::hash::Hash;
 
-/// An operation that was invoked: its id, and what it is.
+/// An invoked operation, with its id.
 #[derive(Drop)]
 pub struct Fresh {
     pub id: u32,
     pub op: Op,
 }
 
-/// The calls after a crash, and their table, if products have become rows.
+/// The calls after a crash, and their table. The table has rows, even if the ends were products before.
 #[derive(Drop)]
 pub struct AfterCrash<S: Hash + Drop> {
     pub calls: Vec<PendingOp>,
     pub table: Table<S>,
 }
 
-/// The effect of a prepared event on a frontier. It is small and copied; its large parts are kept in the frontier. To carry it out takes no
-/// memory.
+/// The effect of a prepared event on a frontier. A change is small and is copied; its large parts are stored in the frontier. A change is
+/// carried out without an allocation.
 #[derive(Clone, Copy)]
 pub enum Change {
     /// Nothing.
     Nothing,
-    /// The operation that is coming is invoked.
+    /// The operation in `coming` is invoked.
     Invoked,
-    /// The operation with this id has returned or failed. It is among the calls no longer, and the rows or products that are left replace
-    /// the others. This number of the remaining calls count as tried.
+    /// The operation with this id has returned or failed. It is removed from the calls, and the rows or products that are left replace the
+    /// others. The number says how many of the remaining calls count as tried.
     Done(u32, usize),
-    /// The calls and the table after the crash take the place of the others, and no call counts as tried.
+    /// The calls and the table after the crash replace the others, and no call counts as tried.
     Crashed,
 }
 
-/// Nothing is prepared any more, and the prepared parts are dropped.
+/// Drops the prepared change and its parts.
 pub fn drop_prepared<S: Hash + Drop>(
     next: &mut Change,
     coming: &mut Option<Fresh>,
@@ -50,8 +50,8 @@ pub fn drop_prepared<S: Hash + Drop>(
     }
 }
 
-/// The same operation, if there is one, which shares the members of a set. Takes constant time, and no memory; `AllocError`
-/// if as many share them as can be counted.
+/// Returns an equal operation, if there is one, which shares the members of a set. Takes constant time, and does not allocate. `AllocError`
+/// if the number of operations that share the members cannot grow any more.
 pub fn copied_fresh(fresh: &Option<Fresh>) -> Result<Option<Fresh>, AllocError>
     ensures { IfOk result (λ copy. copy ≡ fresh.now) }
 {

@@ -1,19 +1,24 @@
-//! The ends of one key's history, found just in time as its events come, and a count of the steps that this takes.
+//! The ends of one key's history, found just in time as its events come, and a count of the steps for this.
 //!
-//! A frontier keeps some ends, and the pending operations lead from them to all others. It finds those others only if an ok asks for them.
-//! It keeps them as rows (`ends`) or as products (`product_ends`), and chooses the form when an operation gets its place, which is as the
-//! event after its invocation comes. An event is prepared, which may allocate and keeps the meaning of the frontier, and then committed,
-//! which takes no memory.
+//! A frontier stores some ends, and the pending operations lead from them to all other ends. It finds those only if an ok requires them. It
+//! stores ends as rows (`ends`) or as products (`product_ends`). It chooses the form when it adds an operation to the calls, which is at
+//! the event after the operation's invocation. An event is first prepared and then committed. A preparation may allocate, and does not
+//! change the histories that the frontier represents. A commit does not allocate.
 //!
 //! A call allocates only if its result can be `AllocError`, or a refusal because memory ran out.
 #![tactic(auto)]
 
 pub mod any_frontier;
+mod by_rules;
 mod change;
+pub mod configurations;
 pub mod frontier;
 mod product_form;
+pub mod specified;
 mod wide;
 
 pub use any_frontier::AnyFrontier;
+pub use configurations::Configurations;
 pub use frontier::Frontier;
 pub use judging::Step;
+pub use specified::SpecifiedFrontier;

@@ -1,4 +1,4 @@
-//! Events of wide kinds, in functions of their own, so that the code for the plain kinds stays so short that it is laid into its callers.
+//! Functions for events of wide kinds. They are separate, so the code for the plain kinds is short enough to be inlined into its callers.
 ghost use Rattle.kinds.specs.Kinds.{object_of};
 ghost use Rattle.kinds.specs.declared.model_kind.ModelKind.TheVariants.{WideRegister as OfWideRegister, WideCasRegister as OfWideCasRegister, WideSet as OfWideSet, WideFifoQueue as OfWideFifoQueue, WideUnorderedQueue as OfWideUnorderedQueue};
 ghost use Rattle.linspec.specs.Counts.{CountsMoreThan};
@@ -61,7 +61,7 @@ pub(crate) fn prepare_wide_set(
     judge.prepare(id, kind, op)
 }
 
-// Prepares an event of a wide queue.
+// Prepares an event of a wide FIFO queue.
 #[inline(never)]
 pub(crate) fn prepare_wide_fifo_queue(
     judge: &mut WideFifoQueue,
@@ -75,7 +75,7 @@ pub(crate) fn prepare_wide_fifo_queue(
     judge.prepare(id, kind, op)
 }
 
-// Prepares an event of a wide queue without an order.
+// Prepares an event of a wide unordered queue.
 #[inline(never)]
 pub(crate) fn prepare_wide_unordered_queue(
     judge: &mut WideUnorderedQueue,
@@ -89,7 +89,7 @@ pub(crate) fn prepare_wide_unordered_queue(
     judge.prepare(id, kind, op)
 }
 
-// An event of a wide register.
+// Observes an event of a wide register.
 #[inline(never)]
 pub(crate) fn observe_wide_register(
     judge: &mut WideRegister,
@@ -103,7 +103,7 @@ pub(crate) fn observe_wide_register(
     judge.observe(id, kind, op)
 }
 
-// An event of a wide register with compare and set.
+// Observes an event of a wide register with compare and set.
 #[inline(never)]
 pub(crate) fn observe_wide_cas_register(
     judge: &mut WideCasRegister,
@@ -117,7 +117,7 @@ pub(crate) fn observe_wide_cas_register(
     judge.observe(id, kind, op)
 }
 
-// An event of a wide set.
+// Observes an event of a wide set.
 #[inline(never)]
 pub(crate) fn observe_wide_set(
     judge: &mut WideSet,
@@ -131,7 +131,7 @@ pub(crate) fn observe_wide_set(
     judge.observe(id, kind, op)
 }
 
-// An event of a wide queue.
+// Observes an event of a wide FIFO queue.
 #[inline(never)]
 pub(crate) fn observe_wide_fifo_queue(
     judge: &mut WideFifoQueue,
@@ -145,7 +145,7 @@ pub(crate) fn observe_wide_fifo_queue(
     judge.observe(id, kind, op)
 }
 
-// An event of a wide queue without an order.
+// Observes an event of a wide unordered queue.
 #[inline(never)]
 pub(crate) fn observe_wide_unordered_queue(
     judge: &mut WideUnorderedQueue,

@@ -1,4 +1,4 @@
--- Invariant: generators differ as trees of numbers, which a model's value needs
+-- Invariant: generators that differ have different trees of numbers, which a model's value needs
 use Rattle.std.specs.Prelude.{◌≡◌, List}
 use Rattle.std.specs.Coded.{Coded, coded_list}
 use Rattle.std.proofs.Common.{refl, ap, sym, ◌∙◌, subst, arith}

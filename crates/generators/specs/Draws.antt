@@ -1,5 +1,5 @@
--- Promise: the answers of generators. The forms are this project's own, in the manner of Jepsen's. `Draws words ask g p o` says: where
--- generator g is asked at place p of the stream of random words, it comes to o
+-- Promise: the answers of generators. The forms are this project's own, in the manner of Jepsen's. `Draws words ask g p o` says: if
+-- generator g is asked at place p of the stream of random words, the outcome is o
 use Rattle.std.specs.Prelude.{◌≡◌, ℕ, zero, suc, ◌+◌, ◌%◌, ◌^◌, Bool, true, false, not, ◌&&◌, ◌||◌, List, [], ◌∷◌, ◌++◌, Option, Some, None}
 use Rattle.generators.specs.declared.item.Item.{Item}
 use Rattle.generators.specs.declared.item.Item.TheVariants.{Op as AnOp, Fault as AFault}
@@ -9,13 +9,13 @@ use Rattle.generators.specs.declared.item.Drawn.{Drawn}
 use Rattle.generators.specs.declared.item.Drawn.TheVariants.{Op, Pending, Done}
 use Rattle.generators.specs.Generators.{Generator, ops, mix, limit, seq, phases, each_thread, clients, nemesis, Generators, none, more, joined, count, is_some, is_over, all_over, at, with_at}
 
--- the outcome of an ask: an item, with the asked generator as it stands afterwards; or none, and true says that one may come later. Both
--- have the place in the stream that was reached
+-- the outcome of an ask: `gives` an item and the asked generator after it; or `declines`, with true if an item may come later. Both have
+-- the place that was reached in the stream
 pub data DrawOutcome (A : Type 0) : Type 0 where
   gives : Item → A → ℕ → DrawOutcome A
   declines : Bool → ℕ → DrawOutcome A
 
--- who asks, and for each thread whether it has no open operation
+-- the asker, and for each thread whether it has no open operation
 pub record Ask : Type 0 where
   pub asker : Asker
   pub idle : List Bool
@@ -38,7 +38,7 @@ abbrev pub copy_for : Asker → Generators → Option Generator
 copy_for (Thread t) gs = at gs t
 copy_for Nemesis gs = None
 
--- the copies with another one for the asking thread
+-- the copies, with another copy for the asking thread
 abbrev pub with_copy : Asker → Generators → Generator → Generators
 with_copy (Thread t) gs h = with_at gs t h
 with_copy Nemesis gs h = gs
@@ -53,7 +53,7 @@ next_place p = (p + 1) % 2 ^ 68
 
 mutual
   pub data Draws (words : ℕ → ℕ) (ask : Ask) : Generator → ℕ → DrawOutcome Generator → Type 0 where
-    -- ops: the next item, if it is for the asker; it goes behind the others
+    -- ops: the next item, if it is for the asker. The item moves to the end of the list
     no_items : {p : ℕ} → Draws words ask (ops []) p (declines false p)
     next_item : {x : Item} {xs : List Item} {p : ℕ} → is_for ask.asker x ≡ true
         → Draws words ask (ops (x ∷ xs)) p (gives x (ops (xs ++ x ∷ [])) p)
@@ -66,7 +66,7 @@ mutual
     limit_declines : {n p q : ℕ} {g : Generator} {later : Bool}
         → Draws words ask g p (declines later q)
         → Draws words ask (limit (suc n) g) p (declines later q)
-    -- mix: takes a word w, and asks the children in turn, from the one at w mod n on and round
+    -- mix: takes a word w, and asks the children one after another, from the child at w mod n on, then from the first
     mix_of_none : {p : ℕ} → Draws words ask (mix none) p (declines false p)
     mix_gives : {g : Generator} {gs : Generators} (front back front' back' : Generators)
         {p q : ℕ} {x : Item}
@@ -79,7 +79,8 @@ mutual
         → more g gs ≡ joined front back → count front ≡ words p % count (more g gs)
         → DrawsInTurn words ask (joined back front) (next_place p) (declines later q)
         → Draws words ask (mix (more g gs)) p (declines later q)
-    -- seq: children that are over are passed; the first other one is asked, and its Done is Pending if another follows
+    -- seq: skips the children that are over, and asks the first other child. If that child declines, an item may come later if the child
+    -- says so or another follows
     seq_of_none : {p : ℕ} → Draws words ask (seq none) p (declines false p)
     seq_passes : {g : Generator} {gs : Generators} {p : ℕ} {o : DrawOutcome Generator}
         → is_over g ≡ true
@@ -90,7 +91,7 @@ mutual
     seq_declines : {g : Generator} {gs : Generators} {p q : ℕ} {later : Bool} → is_over g ≡ false
         → Draws words ask g p (declines later q)
         → Draws words ask (seq (more g gs)) p (declines (later || is_some gs) q)
-    -- phases: as seq, but a child with a follower is passed only if all threads are idle
+    -- phases: as seq, but a child that is over and has a follower is skipped only if all threads are idle
     phases_of_none : {p : ℕ} → Draws words ask (phases none) p (declines false p)
     phases_waits : {g : Generator} {gs : Generators} {p : ℕ} → is_over g ≡ true → is_some gs ≡ true
         → all_idle ask.idle ≡ false
@@ -105,7 +106,8 @@ mutual
     phases_declines : {g : Generator} {gs : Generators} {p q : ℕ} {later : Bool} → is_over g ≡ false
         → Draws words ask g p (declines later q)
         → Draws words ask (phases (more g gs)) p (declines (later || is_some gs) q)
-    -- each thread has a copy of its own; its Done is Pending unless all copies are over
+    -- each_thread: each thread has its own copy. If the copy of the asking thread declines, an item may come later if that copy says so or
+    -- not all copies are over
     no_copy : {gs : Generators} {p : ℕ} → copy_for ask.asker gs ≡ None
         → Draws words ask (each_thread gs) p (declines false p)
     copy_gives : {gs : Generators} {g h : Generator} {p q : ℕ} {x : Item}
@@ -116,14 +118,14 @@ mutual
         → copy_for ask.asker gs ≡ Some g
         → Draws words ask g p (declines later q)
         → Draws words ask (each_thread gs) p (declines (later || not (all_over gs)) q)
-    -- clients: for threads alone
+    -- clients: only for threads
     clients_not : {g : Generator} {p : ℕ} → is_thread ask.asker ≡ false
         → Draws words ask (clients g) p (declines false p)
     clients_gives : {g h : Generator} {p q : ℕ} {x : Item} → is_thread ask.asker ≡ true
         → Draws words ask g p (gives x h q) → Draws words ask (clients g) p (gives x (clients h) q)
     clients_declines : {g : Generator} {p q : ℕ} {later : Bool} → is_thread ask.asker ≡ true
         → Draws words ask g p (declines later q) → Draws words ask (clients g) p (declines later q)
-    -- nemesis: for the nemesis alone
+    -- nemesis: only for the nemesis
     nemesis_not : {g : Generator} {p : ℕ} → is_thread ask.asker ≡ true
         → Draws words ask (nemesis g) p (declines false p)
     nemesis_gives : {g h : Generator} {p q : ℕ} {x : Item} → is_thread ask.asker ≡ false
@@ -131,8 +133,8 @@ mutual
     nemesis_declines : {g : Generator} {p q : ℕ} {later : Bool} → is_thread ask.asker ≡ false
         → Draws words ask g p (declines later q) → Draws words ask (nemesis g) p (declines later q)
 
-  -- the generators are asked one after another, until one gives an item; if none does, one may come later if one of
-  -- them says so
+  -- the generators are asked one after another, until one gives an item. If none gives an item, an item may come later if one of the
+  -- generators says so
   pub data DrawsInTurn (words : ℕ → ℕ) (ask : Ask) : Generators → ℕ → DrawOutcome Generators
       → Type 0 where
     nobody_left : {p : ℕ} → DrawsInTurn words ask none p (declines false p)
@@ -148,12 +150,12 @@ mutual
         → DrawsInTurn words ask gs q (declines others r)
         → DrawsInTurn words ask (more g gs) p (declines (later || others) r)
 
--- the ask comes to an item
+-- the ask gives an item
 abbrev pub GivesItem : (ℕ → ℕ) → Ask → Generator → ℕ → Type 0
 GivesItem words ask g p =
     (x : Item) × (h : Generator) × (q : ℕ) × Draws words ask g p (gives x h q)
 
--- the possible answer of a draw, with the generator and the place in the stream after it. Only an item moves them
+-- the possible answer of a draw, with the generator and the place in the stream after it. Only an item changes the generator and the place
 abbrev pub MayDraw : (ℕ → ℕ) → Ask → Generator → ℕ → Drawn → Generator → ℕ → Type 0
 MayDraw words ask g p (Op x) h q = Draws words ask g p (gives x h q)
 MayDraw words ask g p Pending h q = ((r : ℕ) × Draws words ask g p (declines true r)) × (h ≡ g)

@@ -1,4 +1,4 @@
--- Promise: generators as plain data, without where they lie in memory
+-- Promise: generators as plain data, without their places in memory
 use Rattle.std.specs.Prelude.{ℕ, zero, suc, ◌+◌, ◌==◌, Bool, true, false, ◌&&◌, ◌||◌, List, [], ◌∷◌, map, Option, Some, None}
 use Rattle.generators.specs.Turns.{is_nil}
 use Rattle.generators.specs.declared.item.Item.{Item}
@@ -6,7 +6,7 @@ use Rattle.generators.specs.declared.form.Gen.{Gen, fold-Gen}
 use Rattle.generators.specs.declared.form.Gen.TheOpen.{Gen-F}
 
 mutual
-  -- the items of ops stand in turn, the next one first
+  -- the items of ops are given in rotation, the first one next
   pub data Generator : Type 0 where
     ops : List Item → Generator
     mix : Generators → Generator
@@ -33,7 +33,7 @@ abbrev pub is_some : Generators → Bool
 is_some none = false
 is_some (more g gs) = true
 
--- the generator has nothing left for anybody
+-- the generator has nothing left for any asker
 abbrev mutual
   pub is_over : Generator → Bool
   is_over (ops items) = is_nil items
@@ -54,13 +54,13 @@ abbrev pub copies : ℕ → Generator → Generators
 copies zero g = none
 copies (suc n) g = more g (copies n g)
 
--- the generator at a place, from 0
+-- the generator at place i, from 0
 abbrev pub at : Generators → ℕ → Option Generator
 at none i = None
 at (more g gs) zero = Some g
 at (more g gs) (suc i) = at gs i
 
--- the generators with another one at a place
+-- the generators with another generator at place i
 abbrev pub with_at : Generators → ℕ → Generator → Generators
 with_at none i h = none
 with_at (more g gs) zero h = more h gs
@@ -70,7 +70,7 @@ abbrev pub these : List Generator → Generators
 these [] = none
 these (g ∷ gs) = more g (these gs)
 
--- one level, with each generator inside already seen as its data
+-- one level of a generator, if each generator inside it is already given as data
 abbrev pub view_step : Gen-F Generator → Generator
 view_step (Gen-F.Ops items) = ops items
 view_step (Gen-F.Mix v) = mix (these v.items)
@@ -87,7 +87,7 @@ generator_of = fold-Gen Generator view_step
 abbrev pub generators_of : List Gen → Generators
 generators_of gs = these (map generator_of gs)
 
--- each item of a list, and of a generator
+-- `Each`: P holds of each item of a list; `AllItems` and `AllItemsOf`: of each item in a generator, in generators
 abbrev pub Each : {X : Type 0} → (X → Type 0) → List X → Type 0
 Each P [] = Unit {0}
 Each P (x ∷ xs) = P x × Each P xs

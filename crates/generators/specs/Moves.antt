@@ -1,5 +1,5 @@
--- Invariant: how a generator moves on along the path to the item that it gave. This is the code's own; callers see only
--- what generators answer
+-- Invariant: how a generator changes along the path to the item that it gave. The paths are internal; callers see only what generators
+-- answer
 use Rattle.std.specs.Prelude.{◌≡◌, ℕ, zero, suc, ◌-◌, ◌<◌, List, [], ◌∷◌, Bool, true, false, not, ◌&&◌, ◌||◌}
 use Rattle.generators.specs.declared.item.Item.{Item}
 use Rattle.generators.specs.declared.search_result.SearchResult.{SearchResult}
@@ -23,19 +23,19 @@ abbrev mutual
   moved (seq gs) [] = seq gs
   moved (phases gs) [] = phases gs
 
-  -- with the one at place i moved on
+  -- the generators, with the one at place i moved along the path
   pub moved_at : Generators → ℕ → List ℕ → Generators
   moved_at none i path = none
   moved_at (more g gs) zero path = more (moved g path) gs
   moved_at (more g gs) (suc i) path = more g (moved_at gs i path)
 
-  -- without the first i, and with the next one moved on
+  -- the generators without the first i, and with the next one moved along the path
   pub moved_first : Generators → ℕ → List ℕ → Generators
   moved_first none i path = none
   moved_first (more g gs) zero path = more (moved g path) gs
   moved_first (more g gs) (suc i) path = moved_first gs i path
 
--- along a path that begins with a place
+-- `moved_at` and `moved_first` along a path whose first number is the place
 abbrev pub along : Generators → List ℕ → Generators
 along gs [] = gs
 along gs (i ∷ path) = moved_at gs i path
@@ -44,23 +44,23 @@ abbrev pub along_first : Generators → List ℕ → Generators
 along_first gs [] = gs
 along_first gs (i ∷ path) = moved_first gs i path
 
--- the meaning of a generator's answer
+-- the outcome of a search in generator g
 abbrev pub outcome : Generator → SearchResult → ℕ → DrawOutcome Generator
 outcome g (Gives x path) q = gives x (moved g path) q
 outcome g (Declines later) q = declines later q
 
--- the same of generators of which one is asked at a place
+-- the outcome if the generator at place i of gs was asked
 abbrev pub outcome_at : Generators → ℕ → SearchResult → ℕ → DrawOutcome Generators
 outcome_at gs i (Gives x path) q = gives x (moved_at gs i path) q
 outcome_at gs i (Declines later) q = declines later q
 
--- the same of a form that asks its first child that is not over
+-- the outcome of a form that asks its first child that is not over
 abbrev pub outcome_first : (Generators → Generator) → Generators → SearchResult → ℕ
     → DrawOutcome Generator
 outcome_first form gs (Gives x path) q = gives x (form (along_first gs path)) q
 outcome_first form gs (Declines later) q = declines later q
 
--- a form that asks its first child that is not over, and passes one with a follower only where `passes`
+-- a form that asks its first child that is not over, and skips a child with a follower only if `passing`
 pub record DrawsFirst (words : ℕ → ℕ) (ask : Ask) (form : Generators → Generator)
     (passing : Bool) : Type 0 where
   pub of_none : (p : ℕ) → Draws words ask (form none) p (declines false p)
@@ -79,7 +79,8 @@ pub record DrawsFirst (words : ℕ → ℕ) (ask : Ask) (form : Generators → G
       → Draws words ask g p (declines later q)
       → Draws words ask (form (more g gs)) p (declines (later || is_some gs) q)
 
--- there is an item on some path: in a generator; in one of those that are asked in turn; in the first that is not over
+-- an item is on some path: in a generator (`FindsItem`); in generators that are asked one after another (`FindsInTurn`); in the first child
+-- that is not over (`FindsFirst`)
 abbrev pub FindsItem : (ℕ → ℕ) → Ask → Generator → ℕ → Type 0
 FindsItem words ask g p =
     (x : Item) × (path : List ℕ) × (q : ℕ) × Draws words ask g p (gives x (moved g path) q)

@@ -1,10 +1,9 @@
--- Invariant: answers as the search for an item finds them. These are the code's own; callers see only what generators
--- answer
+-- Invariant: answers of the search for an item. They are internal; callers see only what generators answer
 use Rattle.std.specs.Prelude.{ℕ, ◌<◌, Bool, ◌||◌, ◌∷◌}
 use Rattle.generators.specs.declared.search_result.SearchResult.{SearchResult}
 use Rattle.generators.specs.declared.search_result.SearchResult.TheVariants.{Gives, Declines}
 
--- the answer of a child at a place as that of the generator above it
+-- the answer of child i, as an answer of the generator above it
 abbrev pub under : ℕ → Bool → SearchResult → SearchResult
 under i others (Gives x path) = Gives x (i ∷ path)
 under i others (Declines later) = Declines (later || others)
@@ -13,7 +12,7 @@ abbrev pub IsItem : SearchResult → Type 0
 IsItem (Gives x path) = Unit {0}
 IsItem (Declines later) = ⊥
 
--- an item comes from one of the first n
+-- an item comes from one of the first n children
 abbrev pub IsBelow : ℕ → ℕ → SearchResult → Type 0
 IsBelow n i (Gives x path) = i < n
 IsBelow n i (Declines later) = Unit {0}

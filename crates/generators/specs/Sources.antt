@@ -6,8 +6,8 @@ use Rattle.generators.specs.Codes.{generator_code}
 use Rattle.generators.specs.Moves.{moved}
 use Rattle.generators.specs.Words.{WordsView}
 
--- a generator, and a place in the stream of random words of a seed; and what commit will bring in their place, if a draw is
--- prepared
+-- a generator, a place in the stream of random words of a seed, and, if a draw is prepared, the generator and the place that commit puts in
+-- their place
 pub record SourceView : Type 0 where
   pub generator : Generator
   pub seed : ℕ
@@ -23,7 +23,7 @@ source_view_code =
     (λ p. record { generator = p.0.0; seed = p.0.1; place = p.1.0; next = p.1.1 })
     (λ _. refl)
 
--- the state that commit will bring: the prepared one, or else the present one
+-- the generator and the place after a commit: the prepared ones, or else the present ones
 abbrev pub next_or : Generator → ℕ → Option (Generator × ℕ) → Generator × ℕ
 next_or g p None = (g, p)
 next_or g p (Some n) = n
@@ -39,7 +39,7 @@ committed s = record {
   next = None;
 }
 
--- the path and the place that were found, as what they lead to
+-- what the path and the words that a draw found lead to: the generator after the item, and the place
 abbrev pub next_along : Generator → Option (List ℕ × WordsView) → Option (Generator × ℕ)
 next_along g None = None
 next_along g (Some found) = Some (moved g found.0, found.1.place)

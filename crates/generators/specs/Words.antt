@@ -1,4 +1,4 @@
--- Promise: the stream of random words of a seed, that of ChaCha with 8 rounds (4 double rounds), stream 0
+-- Promise: the stream of random words of a seed, as of ChaCha with 8 rounds (4 double rounds), stream 0
 use Rattle.std.specs.Prelude.{ℕ, List}
 use Rattle.rand_core.specs.Pcg32Seed.{pcg32_seed}
 use Rattle.rand_chacha.specs.ChaCha.{ChaCha, key_of, word_at}

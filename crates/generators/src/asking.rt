@@ -14,7 +14,7 @@ use crate::search_result::SearchResult;
 use crate::words::Words;
 use std::alloc::{AllocError, Global};
 
-// Whether the item is one for the asker.
+// Returns whether the asker may get the item: a thread gets operations, and the nemesis gets faults.
 fn is_for(asker: Asker, item: &Item) -> bool
     ensures { result ≡ is_for asker item.now }
 {
@@ -25,7 +25,7 @@ fn is_for(asker: Asker, item: &Item) -> bool
     }
 }
 
-// Whether all threads are idle.
+// Returns whether all threads are idle.
 fn all_idle(idle: &[bool]) -> bool
     ensures { result ≡ all_idle idle.now }
 {
@@ -56,8 +56,8 @@ fn ask_ops(alloc: Global, items: &Cycle, asker: Asker) -> Result<SearchResult, A
     }
 }
 
-/// The answer of the generator to the asker, where `idle` says for each thread whether it has no open operation. Takes the words that it
-/// needs. `AllocError` if there is an item, and no memory for it and the path.
+/// Returns the answer of the generator to the asker. `idle` says for each thread whether it has no open operation. Takes as many words as
+/// it needs. `AllocError` if there is an item and an allocation for the item or its path fails.
 #[cycle(ask)]
 pub fn ask(
     alloc: Global,
@@ -97,7 +97,7 @@ pub fn ask(
     }
 }
 
-// Takes a word, and asks from the child on that it names, and round.
+// Takes a word, which chooses the first child. Asks the children from this one on, and then those before it.
 #[cycle(ask)]
 fn ask_mix(
     alloc: Global,
@@ -131,7 +131,7 @@ fn ask_mix(
     }
 }
 
-// Asks one after another until one gives an item, and says which one did.
+// Asks the children one after another until one gives an item. Returns the place of this child and its answer.
 #[cycle(ask)]
 fn ask_in_turn(
     alloc: Global,
@@ -158,7 +158,7 @@ fn ask_in_turn(
     Ok((0, SearchResult::Declines(later)))
 }
 
-// Passes the children at the front that are over, with a follower only where `passes`, and asks the first other one.
+// Skips the children that are over, and asks the next child. A child that is over and has a follower is skipped only if `passes`.
 #[cycle(ask)]
 fn ask_first(
     alloc: Global,

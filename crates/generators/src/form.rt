@@ -5,30 +5,31 @@ ghost use Rattle.generators.specs.Generators.{generator_of, generators_of, each_
 use crate::cycle::Cycle;
 use std::alloc::{AllocError, Global};
 
-/// A generator of operations and faults, in the manner of Jepsen's; the forms are this project's own. A form is built as
-/// a value, and [`Gen::each_thread`] makes the copies of that form.
+/// A generator of operations and faults, as in Jepsen. The forms are this project's own. Each form is built as a value, except that
+/// [`Gen::each_thread`] makes the copies of its form.
 #[derive(Drop)]
 pub enum Gen {
-    /// The items in turn, round and round; each is for threads if it is an operation, and for the nemesis if it is a fault.
+    /// Gives the items in a cycle. Threads get the operations, and the nemesis gets the faults.
     Ops(Cycle),
-    /// Asks a child at random, and if it gives nothing the next ones.
+    /// Asks a random child first. If it gives nothing, asks the next children.
     Mix(Vec<Gen>),
-    /// At most this number of items of the child.
+    /// Gives at most this number of items of the child.
     Limit(u64, Box<Gen>),
-    /// The items of the first child, then those of the next.
+    /// Gives the items of the first child, then those of the next one.
     Seq(Vec<Gen>),
-    /// As `Seq`, but the next child begins only if all threads are idle.
+    /// Gives the same items as `Seq`, but the next child begins only when all threads are idle.
     Phases(Vec<Gen>),
-    /// One child for each thread.
+    /// Has one child for each thread.
     EachThread(Vec<Gen>),
-    /// The child, for threads alone.
+    /// Gives the items of the child to threads only.
     Clients(Box<Gen>),
-    /// The child, for the nemesis alone.
+    /// Gives the items of the child to the nemesis only.
     Nemesis(Box<Gen>),
 }
 
 impl Gen {
-    /// A generator with an equal copy of the child for each of the threads 0 to `threads` - 1. Costs O(`threads`) copies of the child.
+    /// Returns a generator with an equal copy of the child for each of the threads 0 to `threads` - 1. Costs O(`threads`) copies of the
+    /// child.
     pub fn each_thread(alloc: Global, threads: u32, child: Gen) -> Result<Gen, AllocError>
         ensures { IfOk result (λ g.
             generator_of g ≡ each_thread (copies threads (generator_of child))) }
@@ -41,7 +42,7 @@ impl Gen {
         Ok(Gen::EachThread(children))
     }
 
-    /// Whether there is nothing left for anybody. Costs O(forms in it).
+    /// Returns whether the generator has no item left for anybody. Costs O(forms in it).
     #[cycle(over)]
     pub fn is_over(&self) -> bool
         ensures { result ≡ is_over (generator_of self.now) }
@@ -58,8 +59,8 @@ impl Gen {
         }
     }
 
-    /// An equal generator, with memory of its own except for the shared members of sets; `AllocError` if there is none, or as many share
-    /// the members as can be counted. Costs O(forms and items in it).
+    /// Returns an equal generator. It has memory of its own, but shares the members of sets. `AllocError` if an allocation fails, or if the
+    /// number of items that share the members cannot grow any more. Costs O(forms and items in it).
     #[cycle(copy)]
     pub fn copy(&self, alloc: Global) -> Result<Gen, AllocError>
         ensures { IfOk result (λ other. generator_of other ≡ generator_of self.now) }

@@ -1,9 +1,9 @@
-//! Generators of operations and faults, like Jepsen's: the next step of a client, or of the nemesis.
+//! Generators of operations and faults, like Jepsen's. A generator gives the next step of a client or of the nemesis.
 //!
-//! A generator is a tree of forms ([`Gen`]): items in turn, a mix, a limit, one after another, phases, one for each thread. A draw looks
-//! for the next item without a change, by the random words of a seed, and keeps the path to it. When the item is carried out, the generator
-//! moves along that path, and the stream moves past the words that were used. So a draw without an item changes nothing, and the same seed
-//! gives the same run.
+//! A generator is a tree of forms ([`Gen`]): items in a cycle, a mix, a limit, a sequence, phases, and one child for each thread. A draw
+//! first searches for the next item, with the random words of a seed. The search changes nothing, and returns the path to the item. When
+//! the item is carried out, the generator moves along this path, and the stream moves past the words that the search used. So a draw
+//! without an item changes nothing, and the same seed gives the same run.
 //!
 //! A call allocates only if its result can be `AllocError`, or a refusal because memory ran out.
 #![tactic(auto)]

@@ -1,11 +1,11 @@
-//! How a generator moves on along the path to the item that it gave.
+//! The move of a generator along the path to the item that it gave.
 ghost use Rattle.std.specs.Prelude.{◌≡◌, drop};
 ghost use Rattle.generators.specs.Generators.{generator_of, generators_of};
 ghost use Rattle.generators.specs.Moves.{moved, along, along_first};
 
 use crate::form::Gen;
 
-/// Moves the generator on along a path. Takes no memory; passed children are dropped.
+/// Moves the generator along a path. Does not allocate; drops the children that it passes.
 #[cycle(advance)]
 pub fn advance(generator: &mut Gen, path: &[usize])
     ensures { generator_of generator.new ≡ moved (generator_of generator.old) path.now }
@@ -32,7 +32,7 @@ fn advance_child(child: &mut Box<Gen>, path: &[usize])
     advance(child, path);
 }
 
-// Moves on the child that the path names first.
+// Moves the child that the path names first.
 #[cycle(advance)]
 fn advance_one(children: &mut Vec<Gen>, path: &[usize])
     ensures { generators_of children.new.items
@@ -46,7 +46,7 @@ fn advance_one(children: &mut Vec<Gen>, path: &[usize])
     }
 }
 
-// Drops the children before the one that the path names first, and moves on that one.
+// Drops the children before the one that the path names first, and moves this child.
 #[cycle(advance)]
 fn advance_first(children: &mut Vec<Gen>, path: &[usize])
     ensures { generators_of children.new.items

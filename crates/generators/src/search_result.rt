@@ -1,4 +1,4 @@
-//! The answer of a generator, as the search for an item finds it.
+//! The answer of a generator, as the search for an item returns it.
 ghost use Rattle.std.specs.Prelude.{◌≡◌, IfOk, OnErr};
 ghost use Rattle.generators.specs.SearchResults.{under, IsItem};
 
@@ -6,18 +6,18 @@ use crate::item::Item;
 use crate::path::Path;
 use std::alloc::AllocError;
 
-/// What a generator answers. It says nothing of the generator afterwards, which has not moved yet.
+/// The answer of a generator, which has not moved yet.
 #[derive(Drop)]
 pub enum SearchResult {
     /// An item, and the path to it.
     Gives(Item, Path),
-    /// None, and whether one may come later.
+    /// No item. The field says whether an item may come later.
     Declines(bool),
 }
 
 impl SearchResult {
-    /// The answer of the child at `place` as the answer of the generator above it. If the child declines, an item may come later if
-    /// `others` is true. Only the path to an item needs memory.
+    /// Returns the answer of the child at `place` as the answer of the generator above it. If the child declines and `others` is true, an
+    /// item may come later. Allocates only for the path to an item.
     pub fn under(self, place: usize, others: bool) -> Result<SearchResult, AllocError>
         ensures answer { IfOk result (λ answer. answer ≡ under place others self) }
         ensures item { OnErr result (IsItem self) }

@@ -11,11 +11,10 @@ use crate::words::Words;
 use std::alloc::{AllocError, Global};
 use std::marker::Model;
 
-/// A generator, and its place in a seed's stream of random words: the words of 32 bits of the ChaCha8 generator that the
-/// seed gives.
+/// A generator, and its place in a seed's stream of random words: the words of 32 bits of the ChaCha8 generator with this seed.
 ///
-/// A draw has two halves: [`prepare`](Source::prepare) finds the item and changes nothing else, and
-/// [`commit`](Source::commit) moves on behind it. Neither copies the generator.
+/// A draw has two halves. [`prepare`](Source::prepare) finds the item and changes nothing else. [`commit`](Source::commit) moves the
+/// generator and the place past it. Neither copies the generator.
 pub struct Source {
     alloc: Global,
     generator: Gen,
@@ -42,7 +41,7 @@ impl Model for Source {
     ghost invariant = { λ a. IfSome a.prepared (λ found. found.1.seed ≡ a.words.seed) };
 }
 
-// So that crates above give one back by one call.
+// With this implementation, a crate above drops a source by one call.
 impl Drop for Source {
     fn drop(self) {
         let Source {
@@ -60,7 +59,7 @@ impl Source {
     ghost use Rattle.generators.specs.Words.{word};
     ghost use Rattle.generators.specs.Sources.{upcoming, committed};
 
-    /// The generator, at the beginning of the stream of the seed.
+    /// Returns the generator, at the beginning of the seed's stream.
     pub fn new(alloc: Global, generator: Gen, seed: u64) -> Source
         ensures { result ≡ record {
           generator = generator_of generator;
@@ -77,7 +76,7 @@ impl Source {
         }
     }
 
-    /// The place of the next word in the stream, modulo 2^68.
+    /// Returns the place of the next word in the stream, modulo 2^68.
     pub fn place(&self) -> u128
         ensures value { result ≡ self.now.place }
         ensures bound { result < 2 ^ 68 }
@@ -89,7 +88,7 @@ impl Source {
     /// in the stream.
     ///
     /// # Errors
-    /// `AllocError` if there is an item, and no memory for it and the path to it; then all is as it was.
+    /// `AllocError` if there is an item and an allocation for the item or its path fails; everything is then as it was.
     ///
     /// Costs O(generators that are asked + children on the way that are over + size of the item).
     pub fn draw(&mut self, idle: &[bool], asker: Asker) -> Result<Drawn, AllocError>
@@ -99,7 +98,7 @@ impl Source {
         ensures seed { self.new.seed ≡ self.old.seed }
         ensures next { self.new.next ≡ None }
         ensures err { OnErr result (self.new ≡ record self.old { next = None }) }
-        // Only an item needs memory.
+        // Allocates only if there is an item.
         ensures item { OnErr result (GivesItem (word self.old.seed) (ask_of asker idle.now)
             self.old.generator self.old.place) }
     {
@@ -108,18 +107,18 @@ impl Source {
         Ok(drawn)
     }
 
-    /// The answer that [`draw`](Source::draw) would give, in the same time. The generator and its place stay as they are;
-    /// the next `prepare` or `draw` drops what is prepared.
+    /// Returns the answer that [`draw`](Source::draw) would give, at the same cost. Does not change the generator or its place. The next
+    /// `prepare` or `draw` drops the prepared draw.
     ///
     /// # Errors
-    /// `AllocError` if there is an item, and no memory for it and the path to it; then nothing is prepared.
+    /// `AllocError` if there is an item and an allocation for the item or its path fails; nothing is prepared then.
     pub fn prepare(&mut self, idle: &[bool], asker: Asker) -> Result<Drawn, AllocError>
         ensures answer { IfOk result (λ drawn.
             MayDraw (word self.old.seed) (ask_of asker idle.now) self.old.generator self.old.place
             drawn (upcoming self.new).0 (upcoming self.new).1) }
         ensures kept { self.new ≡ record self.old { next = self.new.next } }
         ensures err { OnErr result (self.new.next ≡ None) }
-        // Only an item needs memory.
+        // Allocates only if there is an item.
         ensures item { OnErr result (GivesItem (word self.old.seed) (ask_of asker idle.now)
             self.old.generator self.old.place) }
     {
@@ -135,8 +134,8 @@ impl Source {
         }
     }
 
-    /// Brings what is prepared, if a draw is. Takes no memory and cannot fail. Costs O(length of the path to the item), and the children at
-    /// its forms that are dropped or move up.
+    /// Carries out the prepared draw, if there is one. Does not allocate and cannot fail. Costs O(length of the path to the item), and the
+    /// children that are dropped or move up at its forms.
     pub fn commit(&mut self)
         ensures { self.new ≡ committed self.old }
     {
@@ -146,8 +145,9 @@ impl Source {
         }
     }
 
-    /// The same generator at the same place with nothing prepared, and with memory of its own except for the shared members of sets.
-    /// `AllocError` if there is none, or as many share the members as can be counted. Costs O(forms and items in it).
+    /// Returns the same generator at the same place, with nothing prepared. The copy has memory of its own, but shares the members of sets.
+    /// `AllocError` if an allocation fails, or if the number of items that share the members cannot grow any more. Costs O(forms and items
+    /// in it).
     pub fn copy(&self) -> Result<Source, AllocError>
         ensures { IfOk result (λ other. other ≡ record self.now { next = None }) }
     {

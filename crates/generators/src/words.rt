@@ -8,8 +8,8 @@ use rand_core::SeedableRng;
 use rand_core::utils::NextWord;
 use std::marker::Model;
 
-/// A place in a seed's stream of random words: the words of 32 bits of the ChaCha8 generator that the seed gives,
-/// from its first one on.
+/// A place in a seed's stream of random words. The stream has the words of 32 bits of the ChaCha8 generator with this seed, from its first
+/// word on.
 #[derive(Drop)]
 pub struct Words {
     seed: u64,
@@ -28,7 +28,7 @@ impl Model for Words {
 }
 
 impl Words {
-    /// The beginning of the stream of a seed.
+    /// Returns the beginning of the stream of a seed.
     pub fn new(seed: u64) -> Words
         ensures { result ≡ record { seed = seed; place = 0 } }
     {
@@ -38,7 +38,7 @@ impl Words {
         }
     }
 
-    /// The place of the next word, below 2^68.
+    /// Returns the place of the next word, below 2^68.
     pub fn place(&self) -> u128
         ensures value { result ≡ self.now.place }
         ensures bound { result < 2 ^ 68 }
@@ -46,7 +46,7 @@ impl Words {
         self.rng.get_word_pos()
     }
 
-    /// The word at this place; the next place is modulo 2^68.
+    /// Returns the word at this place, and moves to the next place, modulo 2^68.
     pub fn next(&mut self) -> u32
         ensures word { result ≡ word self.old.seed self.old.place }
         ensures place { self.new ≡ record self.old { place = next_place self.old.place } }
@@ -54,7 +54,7 @@ impl Words {
         self.rng.next_word()
     }
 
-    /// The same place of the same stream.
+    /// Returns the same place in the same stream.
     pub fn copy(&self) -> Words
         ensures { result ≡ self.now }
     {

@@ -16,7 +16,7 @@ use Rattle.generators.specs.Words.{word}
 use Rattle.harness.specs.declared.asking.Drew.{Drew}
 use Rattle.harness.specs.declared.asking.Drew.TheVariants.{Op as DrewOp, Pending as DrewPending, Done as DrewDone}
 
--- the source may answer the asker so, which leads to this generator and place
+-- the source may give the asker this answer; `to` is the generator and the place after it
 abbrev pub MayGive : SourceView → List Bool → Asker → Drawn → Generator × ℕ → Type 0
 MayGive source idle asker drawn to =
     MayDraw (word source.seed) (ask_of asker idle) source.generator source.place drawn to.0 to.1
@@ -34,7 +34,7 @@ MayGiveFault source idle (Some fault) to = MayGive source idle Nemesis (Gets (AF
 MayGiveFault source idle None to =
     MayGive source idle Nemesis Pending to ⊎ MayGive source idle Nemesis Done to
 
--- the source has an operation for the thread; it has a fault
+-- the source has an operation for the thread; the source has a fault
 abbrev pub HasOpFor : SourceView → List Bool → ℕ → Type 0
 HasOpFor source idle thread =
     (op : Op) × (to : Generator × ℕ) × MayGive source idle (Thread thread) (Gets (AnOp op)) to
@@ -43,7 +43,8 @@ abbrev pub HasFaultFor : SourceView → List Bool → Type 0
 HasFaultFor source idle =
     (fault : Fault) × (to : Generator × ℕ) × MayGive source idle Nemesis (Gets (AFault fault)) to
 
--- why no fault strikes where the history is full: there is none, or there is one, also if there is no memory for it
+-- the refusal of a fault if the history is full: Idle if there is no fault, else HistoryFull, also if memory ran out while the fault was
+-- drawn
 abbrev pub why_full : {E : Type 0} → Result (Option Fault) E → Refusal
 why_full (Ok None) = Idle
 why_full (Ok (Some fault)) = HistoryFull

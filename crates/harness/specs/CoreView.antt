@@ -1,4 +1,4 @@
--- Promise: the one-thread object, as a caller sees it, and when a command of it may run out of memory (this project's own)
+-- Promise: the one-thread object, as a caller sees it, and the commands that may run out of memory (this project's own)
 use Rattle.std.specs.Prelude.{◌≡◌, ◌≤◌, Option, Some, None, IsSome, Result, Ok, Err, length}
 use Rattle.edn.specs.declared.refusal.Refusal.{Refusal}
 use Rattle.edn.specs.declared.refusal.Refusal.TheVariants.{NoMemory}
@@ -22,14 +22,14 @@ at_rest m = record { machine = m; next = None }
 abbrev pub with_next : Machine → Machine → CoreView
 with_next m next = record { machine = m; next = Some next }
 
--- the command is answered so: by a reply, and the verdict of the machine that is then prepared
+-- the command is prepared, with this reply, and with the verdict of the machine after it
 abbrev pub IsPrepared : Machine → Command → Reply × Verdict → CoreView → Type 0
 IsPrepared old command answer new =
     (next : Machine) × MayStep old command (Ok answer.0) next × IsVerdictOn next.judged answer.1
     × (new ≡ with_next old next)
 
--- the command passes every test, so that only memory can be wanted. Asking for the verdict wants none, and nor does a draw
--- that finds no operation
+-- the command passes every test, so only memory may be missing. Asking for the verdict needs no memory, and neither does a draw that finds
+-- no operation
 abbrev pub MayWantMemory : Machine → Command → Type 0
 MayWantMemory m (Append event) = Takes m event
 MayWantMemory m (Rewind n) = n ≤ length m.judged.events
@@ -44,17 +44,17 @@ MayWantMemory m (Finish number) =
     × HasRoom m.judged.events
 MayWantMemory m Nemesis = HasFault m × HasRoom m.judged.events
 
--- the command may be refused for this
+-- the refusals of a command
 abbrev pub MayDecline : Machine → Command → Refusal → Type 0
 MayDecline m command NoMemory = MayWantMemory m command
 MayDecline m command why = Refuses m command why
 
--- the command may be answered so: it is prepared, or declined with nothing prepared
+-- the command is prepared with its answer, or refused with nothing prepared
 abbrev pub MayPrepare : Machine → Command → Result (Reply × Verdict) Refusal → CoreView → Type 0
 MayPrepare old command (Ok answer) new = IsPrepared old command answer new
 MayPrepare old command (Err why) new = MayDecline old command why × (new ≡ at_rest old)
 
--- the same at once: it is carried out, or declined, and nothing is prepared
+-- the command is carried out at once with its reply, or refused. Nothing is prepared after it
 abbrev pub MayCarryOut : Machine → Command → Result Reply Refusal → CoreView → Type 0
 MayCarryOut old command (Ok reply) new =
     (next : Machine) × MayStep old command (Ok reply) next × (new ≡ at_rest next)

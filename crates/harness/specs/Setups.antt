@@ -1,4 +1,4 @@
--- Promise: how the one-thread object is opened, and why it is not (this project's own)
+-- Promise: how the one-thread object is opened, and the refusals of its opening (this project's own)
 use Rattle.std.specs.Prelude.{ℕ, []}
 use Rattle.edn.specs.declared.refusal.Refusal.{Refusal}
 use Rattle.edn.specs.declared.refusal.Refusal.TheVariants.{BadValue, BadBudget, BadConcurrency, NoMemory, NoSuchReplica}
@@ -27,22 +27,22 @@ setup_of config = record {
   mode = config.mode;
 }
 
--- each operation and fault that may come passes the test
+-- each operation of the generator, and each fault of the generator and the schedule, passes the test
 abbrev pub AllPass : Test → Setup → Type 0
 AllPass test setup =
     AllItems (Passes test) setup.generator × Each (λ x. FaultPasses test x.1) setup.schedule
 
--- all replicas that are named are there
+-- all named replicas are in the store, which has 1 to 7 replicas
 abbrev pub HasReplicas : Setup → Type 0
 HasReplicas setup = IsCount setup.replicas × AllPass (IsPresent setup.replicas) setup
 
--- it may be opened
+-- the setup may be opened
 abbrev pub IsSetup : Setup → Type 0
 IsSetup setup =
     IsBudget setup.budget × IsConcurrency setup.concurrency × HasReplicas setup
     × AllPass IsInTables setup
 
--- why it is not: by the first test that it does not pass, or memory ran out
+-- the refusal of an opening: the first test that the setup fails, or NoMemory
 abbrev pub MayNotOpen : Setup → Refusal → Type 0
 MayNotOpen setup BadBudget = ¬ IsBudget setup.budget
 MayNotOpen setup BadConcurrency = IsBudget setup.budget × ¬ IsConcurrency setup.concurrency
@@ -54,7 +54,7 @@ MayNotOpen setup BadValue =
 MayNotOpen setup NoMemory = IsSetup setup
 MayNotOpen setup _ = ⊥
 
--- if it only judges: no operation to draw and no fault to come, one replica, strict, and seed 0
+-- a setup that only judges: no operation to draw and no fault to come, one replica, strict, and seed 0
 abbrev pub judging : ℕ → ModelKind → ℕ → Setup
 judging concurrency kind budget = record {
   concurrency = concurrency;

@@ -18,7 +18,7 @@ use Rattle.machine.specs.Tickets.{AreTickets, served_of}
 use Rattle.harness.specs.declared.change.Change.{Change}
 use Rattle.harness.specs.declared.change.Change.TheVariants.{Nothing, Same, Judged, Rewind, Draw, Serve, StrikeDue, StrikeDrawn}
 
--- the machine of the parts
+-- the machine with these parts
 abbrev pub machine_of : MonitorView → SourceView → List (ℕ × Fault) → StoreView → List Ticket → Machine
 machine_of monitor source schedule store tickets = record {
   judged = monitor.now;
@@ -30,7 +30,7 @@ machine_of monitor source schedule store tickets = record {
   tickets = tickets;
 }
 
--- the same with the history judged then; and with the source as it is then, and the store
+-- the machine with another judged history; with another generator and place; with another judged history and store
 abbrev pub judged_as : Machine → JudgedHistory → Machine
 judged_as m h = record m { judged = h }
 
@@ -40,7 +40,7 @@ moved_on to m = record m { generator = to.0; place = to.1 }
 abbrev pub struck_as : Machine → JudgedHistory → Cluster → Machine
 struck_as m h after = record m { judged = h; store = after }
 
--- the ticket with this number, if there is one, has come to this
+-- the tickets after a serve of the ticket with this number, if there is one
 abbrev pub served_at : ℕ → Outcome → Option Ticket → List Ticket → List Ticket
 served_at number outcome None tickets = tickets
 served_at number outcome (Some t) tickets = slice_set tickets number (served_as outcome t)
@@ -48,7 +48,7 @@ served_at number outcome (Some t) tickets = slice_set tickets number (served_as 
 abbrev pub with_outcome : ℕ → Outcome → List Ticket → List Ticket
 with_outcome number outcome tickets = served_at number outcome (slice_get tickets number) tickets
 
--- the machine that the change leads to
+-- the machine after the change
 abbrev pub next_of : MonitorView → SourceView → StoreView → Machine → Change → Option Machine
 next_of monitor source store m Nothing = None
 next_of monitor source store m Same = Some m
@@ -74,7 +74,7 @@ next_of monitor source store m StrikeDrawn =
     (λ h. option_map (λ after. moved_on (upcoming source) (struck_as m h after)) store.next)
     monitor.next
 
--- an operation that the history takes, a fault that history and store take
+-- an operation that the history accepts; a fault that the history and the store accept
 abbrev pub IsGood : ℕ → Item → Type 0
 IsGood replicas (AnOp op) = IsPart op.name op.part
 IsGood replicas (AFault fault) = MayStrike replicas fault
@@ -88,7 +88,7 @@ pub record IsSoundMachine (m : Machine) : Type 0 where
   pub items : AllItems (IsGood m.store.replicas) m.generator
   pub faults : Each (λ x. MayStrike m.store.replicas x.1) m.schedule
 
--- there is room for a ticket that is to come, and a ticket that is to be served
+-- there is room for the ticket of a draw; the ticket of a serve exists
 abbrev pub IsReady : ℕ → List Ticket → Change → Type 0
 IsReady capacity tickets (Draw t) = length tickets < capacity
 IsReady capacity tickets (Serve number outcome) = number < length tickets

@@ -1,4 +1,4 @@
-//! Questions to a generator, and its answers.
+//! Questions to a generator, with their answers.
 ghost use Rattle.std.specs.Prelude.{◌≡◌, ◌<◌, IfOk, OnErr, length, take};
 ghost use Rattle.generators.specs.declared.item.Asker.{Asker};
 ghost use Rattle.generators.specs.Sources.{upcoming};
@@ -12,7 +12,7 @@ use history::History;
 use models::Op;
 use std::alloc::AllocError;
 
-/// What a thread draws.
+/// The answer to a thread's draw.
 #[derive(Drop)]
 pub(crate) enum Drew {
     Op(Op),
@@ -20,8 +20,8 @@ pub(crate) enum Drew {
     Done,
 }
 
-/// The operation that the generator would give the thread. It changes nothing but what the source has prepared. Only an operation needs
-/// memory.
+/// Returns the answer that the generator would give the thread. Changes only the prepared draw of the source. Allocates only for an
+/// operation.
 pub(crate) fn draw_op(
     source: &mut Source,
     history: &History,
@@ -45,8 +45,8 @@ pub(crate) fn draw_op(
     }
 }
 
-/// The fault that the generator would give the nemesis, if there is one. It changes nothing but what the source has prepared. Only a fault
-/// needs memory.
+/// Returns the fault that the generator would give the nemesis, if there is one. Changes only the prepared draw of the source. Allocates
+/// only for a fault.
 pub(crate) fn draw_fault(
     source: &mut Source,
     history: &History,
@@ -69,7 +69,8 @@ pub(crate) fn draw_fault(
     }
 }
 
-/// Why no fault strikes where the history is full: there is none, or there is one, also if there is no memory for it.
+/// Returns why no fault strikes when the history is full: `Idle` if the generator gives none, and otherwise `HistoryFull`, also if an
+/// allocation failed.
 pub(crate) fn why_full(drawn: &Result<Option<Fault>, AllocError>) -> Refusal
     ensures { result ≡ why_full drawn.now }
 {
@@ -80,7 +81,7 @@ pub(crate) fn why_full(drawn: &Result<Option<Fault>, AllocError>) -> Refusal
     }
 }
 
-// For each thread whether it has no open operation.
+// Returns for each thread whether it has no open operation.
 fn idle_flags(history: &History) -> [bool; 64]
     ensures len { length result ≡ 64 }
     ensures flags { take history.now.concurrency result

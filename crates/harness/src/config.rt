@@ -1,4 +1,4 @@
-//! How the one-thread object is opened.
+//! The configuration of the one-thread object.
 ghost use Rattle.std.specs.Prelude.{◌≡◌, ◌↔◌, IsTrue, OnOk, IfErr};
 ghost use Rattle.harness.specs.Setups.{setup_of, judging, AllPass, IsSetup, MayNotOpen};
 
@@ -13,18 +13,18 @@ use processes::MOST_THREADS;
 use std::alloc::Global;
 use test_store::Mode;
 
-/// How a [`Core`](crate::Core) is opened.
+/// The configuration with which a [`Core`](crate::Core) is opened.
 #[derive(Drop)]
 pub struct Config {
-    /// How many threads the history has, 1 to 64.
+    /// The number of threads of the history, 1 to 64.
     pub concurrency: u32,
-    /// The kind of object that a key is for which none was set, and that each key of the store is.
+    /// The kind of each key for which no kind was set, and of each key of the store.
     pub kind: ModelKind,
-    /// How many ends of a key for which no budget was set may be possible just before an ok, 1 to 65,536.
+    /// The budget of each key for which no budget was set, 1 to 65,536: the maximum number of its ends just before an ok.
     pub budget: u32,
-    /// How many replicas the store has, 1 to 7.
+    /// The number of replicas of the store, 1 to 7.
     pub replicas: u8,
-    /// How they serve.
+    /// The mode in which the replicas serve.
     pub mode: Mode,
     /// The items for clients and the nemesis.
     pub generator: Gen,
@@ -35,8 +35,8 @@ pub struct Config {
 }
 
 impl Config {
-    /// The configuration of an object that only judges a history of others: no operation to draw and no fault to come, one replica, strict,
-    /// and seed 0. The numbers are not tested here.
+    /// Returns the configuration of an object that only judges a recorded history. There are no operations to draw and no faults. The store
+    /// has one replica and is strict, and the seed is 0. The numbers are not tested here.
     pub fn judging_only(alloc: Global, concurrency: u32, kind: ModelKind, budget: u32) -> Config
         ensures { setup_of result ≡ judging concurrency kind budget }
     {
@@ -52,13 +52,13 @@ impl Config {
         }
     }
 
-    /// Tests that its numbers are within their limits, and that each operation and fault that may come is one that history
-    /// and store take. Takes no memory, and the time of the generator and the schedule.
+    /// Tests that the numbers are within their limits, and that history and store accept each operation and fault that may come. Does not
+    /// allocate. Costs O(generator + schedule).
     ///
     /// # Errors
-    /// [`Refusal::BadBudget`] if the budget is not 1 to 65,536, else [`Refusal::BadConcurrency`] if the concurrency is not 1 to 64. Else
-    /// [`Refusal::NoSuchReplica`] if the replicas are not 1 to 7 or a fault names one that is not there. Else [`Refusal::BadValue`] if an
-    /// operation has a part outside the tables or a fault names a replica twice.
+    /// The first of the following. [`Refusal::BadBudget`] if the budget is not 1 to 65,536. [`Refusal::BadConcurrency`] if the concurrency
+    /// is not 1 to 64. [`Refusal::NoSuchReplica`] if the number of replicas is not 1 to 7, or a fault names a replica that does not exist.
+    /// [`Refusal::BadValue`] if an operation has a part outside the tables, or a fault names a replica twice.
     pub fn check(&self) -> Result<(), Refusal>
         ensures within { OnOk result (IsSetup (setup_of self.now)) }
         ensures refused { IfErr result (MayNotOpen (setup_of self.now)) }
@@ -82,7 +82,7 @@ impl Config {
     }
 }
 
-// Whether each operation and fault that may come passes the test.
+// Returns whether each operation and fault that may come passes the test.
 fn passes(test: Test, config: &Config) -> bool
     ensures { IsTrue result ↔ AllPass test (setup_of config.now) }
 {

@@ -29,11 +29,11 @@ use std::marker::Model;
 use test_store::Store;
 
 /// The one-thread object with all its commands. It has a history under a live monitor, a generator of operations and faults, and a schedule
-/// of faults. It also has a replicated store in the process, and a ticket for each operation that was drawn.
-/// Linearizability is that of Herlihy and Wing (1990).
+/// of faults. It also has a replicated store inside the process, and a ticket for each drawn operation. Linearizability is that of Herlihy
+/// and Wing (1990).
 ///
-/// Each command is prepared and then committed. A prepare may fail, and changes only the prepared change. [`step`](Core::step) does both in
-/// one call.
+/// Each command is first prepared and then committed. A preparation may fail, and replaces only the prepared change. [`step`](Core::step)
+/// does both in one call.
 pub struct Core {
     pub(crate) alloc: Global,
     pub(crate) monitor: Monitor,
@@ -50,10 +50,12 @@ impl Model for Core {
     ghost use Rattle.harness.specs.SoundCore.{machine_of, next_of, IsSoundCore};
     ghost use Rattle.std.specs.Coded.{codes};
     ghost use Rattle.generators.specs.Codes.{generator_code};
+    ghost use Rattle.kinds.specs.contracts.any_state.AnyState as any_state;
+    ghost use Rattle.kinds.specs.contracts.model_kind.ModelKind as model_kind;
 
     ghost Value = { CoreView };
 
-    ghost coded = { Prim.hlevel (codes, generator_code) };
+    ghost coded = { Prim.hlevel (codes, generator_code, any_state.the_row.coded, model_kind.the_row.coded) };
 
     ghost view = { λ a.
         let m = machine_of a.monitor a.source a.schedule a.store a.tickets.items in record {
@@ -67,7 +69,7 @@ impl Model for Core {
         (vec_capacity a.tickets) a.change };
 }
 
-// So that crates above give one back by one call.
+// With this implementation, a crate above drops the object by one call.
 impl Drop for Core {
     fn drop(self) {
         let Core {
@@ -83,12 +85,12 @@ impl Drop for Core {
 }
 
 impl Core {
-    /// Opens it on the history without events, with no tickets, the generator at the beginning of its random words, and a store on which no
-    /// key was changed. Costs what [`Config::check`] costs.
+    /// Opens the object. Its history has no events, and it has no tickets. Its generator is at the beginning of the random words, and no
+    /// key of its store was changed. Costs what [`Config::check`] costs.
     ///
     /// # Errors
-    /// [`Refusal::BadBudget`], [`Refusal::BadConcurrency`], [`Refusal::NoSuchReplica`] and [`Refusal::BadValue`], in this
-    /// order, as [`Config::check`] says, else [`Refusal::NoMemory`] if an allocation fails.
+    /// [`Refusal::BadBudget`], [`Refusal::BadConcurrency`], [`Refusal::NoSuchReplica`] and [`Refusal::BadValue`] in this order, as
+    /// [`Config::check`] says, otherwise [`Refusal::NoMemory`] if an allocation fails.
     pub fn new(alloc: Global, config: Config) -> Result<Core, Refusal>
         ensures limits { OnOk result (IsSetup (setup_of config)) }
         ensures opened { IfOk result (λ core. core ≡ at_rest (opening (setup_of config))) }
@@ -108,34 +110,37 @@ impl Core {
         })
     }
 
-    /// Prepares a command, and returns its reply and the verdict after [`commit`](Core::commit). The machine stays as it is. The next
-    /// `prepare` or `step` drops what is prepared.
+    /// Prepares a command, and returns its reply and the verdict after [`commit`](Core::commit). The machine does not change yet. The next
+    /// `prepare` or `step` drops the prepared change.
     ///
     /// Costs what the change costs the [`Monitor`], which is an append for an event, a draw, a finish and a fault. A draw and a fault also
     /// cost a [`Source::prepare`](generators::Source::prepare), a serve a [`Store::prepare_serve`](test_store::Store::prepare_serve), and a
     /// fault a [`Store::prepare_fault`](test_store::Store::prepare_fault). The verdict takes constant time.
     ///
     /// # Errors
-    /// The first test that the command does not pass, in this order. An event: those of
-    /// [`History::prepare_push`](history::History::prepare_push). A rewind: [`Refusal::NoSuchIndex`] if there are fewer events. A budget:
-    /// [`Refusal::BadBudget`] if it is not 1 to 65,536. A draw: [`Refusal::WrongProcess`] if there is no such thread, [`Refusal::Busy`] if
-    /// it has an operation open, and [`Refusal::HistoryFull`] if there are 2^20 events. Also [`Refusal::TapeFull`] if there are 2^32 - 1
-    /// tickets. A serve: [`Refusal::Stale`] if no ticket has the number or its invocation was cut, [`Refusal::AlreadyServed`] if it was
-    /// served, [`Refusal::NotOpen`] if its operation is not open. A finish: [`Refusal::Stale`], [`Refusal::NotServed`] if it was not
-    /// served, [`Refusal::HistoryFull`], [`Refusal::NotOpen`]. The nemesis: [`Refusal::Idle`] if no fault is due and the generator gives it
-    /// none, [`Refusal::HistoryFull`].
+    /// The first test that the command does not pass, in this order:
     ///
-    /// Else [`Refusal::NoMemory`] if an allocation fails, which only a command that passes its tests may want. Then nothing is prepared.
-    /// [`Command::Verdict`] is never refused, and a kind only because memory ran out.
+    /// - An event: those of [`History::prepare_push`](history::History::prepare_push).
+    /// - A rewind: [`Refusal::NoSuchIndex`] if there are fewer events.
+    /// - A budget: [`Refusal::BadBudget`] if it is not 1 to 65,536.
+    /// - A draw: [`Refusal::WrongProcess`] if there is no such thread, [`Refusal::Busy`] if it has an open operation,
+    ///   [`Refusal::HistoryFull`] if there are 2^20 events, [`Refusal::TapeFull`] if there are 2^32 - 1 tickets.
+    /// - A serve: [`Refusal::Stale`] if no ticket has the number or its invocation was cut, [`Refusal::AlreadyServed`] if it was served,
+    ///   [`Refusal::NotOpen`] if its operation is not open.
+    /// - A finish: [`Refusal::Stale`], [`Refusal::NotServed`] if it was not served, [`Refusal::HistoryFull`], [`Refusal::NotOpen`].
+    /// - The nemesis: [`Refusal::Idle`] if no fault is due and the generator gives none, [`Refusal::HistoryFull`].
+    ///
+    /// Otherwise [`Refusal::NoMemory`] if an allocation fails, which only happens to a command that passes its tests. After an error
+    /// nothing is prepared. [`Command::Verdict`] is never refused, and a change of a kind only because memory ran out.
     pub fn prepare(&mut self, command: Command) -> Result<(Reply, Verdict), Refusal>
         ensures answered { IfOk result (λ answer.
             IsPrepared self.old.machine command answer self.new) }
         ensures refused { IfErr result (λ why. why ≢ Refusal.NoMemory →
             MayStep self.old.machine command (Err why) self.old.machine) }
         ensures err { OnErr result (self.new ≡ at_rest self.old.machine) }
-        // The verdict takes no memory and is never refused.
+        // The verdict does not allocate and is never refused.
         ensures asked { command ≡ Command.Verdict → IsOk result }
-        // Want of memory is answered last.
+        // A failed allocation is the last of the refusals.
         ensures memory_last { IsErrOf result Refusal.NoMemory →
             MayWantMemory self.old.machine command }
     {
@@ -152,7 +157,8 @@ impl Core {
         }
     }
 
-    /// Carries out what is prepared. It takes no memory and cannot fail. It costs the drop of the old parts, and for a rewind O(tickets).
+    /// Carries out the prepared change. Does not allocate and cannot fail. Costs the drop of the replaced parts, and O(tickets) for a
+    /// rewind.
     pub fn commit(&mut self)
         requires { IsSome self.old.next }
         ensures { IfSome self.old.next (λ next. self.new ≡ at_rest next) }
@@ -188,7 +194,7 @@ impl Core {
     }
 
     /// Carries out a command, and returns its reply, as [`prepare`](Core::prepare) and [`commit`](Core::commit) do, at the cost of both. An
-    /// event is given to [`Monitor::append`], so that only the monitor notes the prepared change.
+    /// event goes directly to [`Monitor::append`], so only the monitor stores the prepared change.
     ///
     /// # Errors
     /// Those of [`prepare`](Core::prepare); the machine then stays as it was.
@@ -197,12 +203,12 @@ impl Core {
             MayStep self.old.machine command result self.new.machine }
         ensures no_memory { result ≡ Err Refusal.NoMemory → self.new.machine ≡ self.old.machine }
         ensures rests { self.new ≡ at_rest self.new.machine }
-        // The verdict takes no memory and is never refused.
+        // The verdict does not allocate and is never refused.
         ensures asked { command ≡ Command.Verdict → IsOk result }
-        // Want of memory is answered last.
+        // A failed allocation is the last of the refusals.
         ensures memory_last { IsErrOf result Refusal.NoMemory →
             MayWantMemory self.old.machine command }
-        // No trial of a strict store is a false alarm: with this step, the history is linearizable.
+        // No trial of a strict store is a false alarm: the history after this step is linearizable.
         ensures no_alarm { (setup : Setup) (run : List (Command × Result Reply Refusal))
             → setup.mode ≡ Strict → IsCount setup.replicas
             → AreOfTrial (run ++ (command, result) ∷ [])
@@ -217,21 +223,21 @@ impl Core {
         }
     }
 
-    /// The verdict on the present history. Takes constant time.
+    /// Returns the verdict on the present history. Takes constant time.
     pub fn verdict(&self) -> Verdict
         ensures { IsVerdictOn self.now.machine.judged result }
     {
         self.monitor.verdict()
     }
 
-    /// The monitor: its history, and its keys by first event.
+    /// Returns the monitor, with its history and its keys in the order of first events.
     pub fn monitor(&self) -> &Monitor
         ensures { result.now.now ≡ self.now.machine.judged }
     {
         &self.monitor
     }
 
-    // Carries out a command, by both halves.
+    // Carries out a command, by `prepare` and `commit`.
     fn prepare_and_commit(&mut self, command: Command) -> Result<Reply, Refusal>
         ensures { MayCarryOut self.old.machine command result self.new }
     {
@@ -240,7 +246,7 @@ impl Core {
         Ok(reply)
     }
 
-    // Appends an event by the whole call of the monitor: between its halves nothing is kept here.
+    // Appends an event by one call of the monitor, so nothing is prepared here.
     fn append(&mut self, event: Event) -> Result<Reply, Refusal>
         ensures { MayCarryOut self.old.machine (Command.Append event) result self.new }
     {
@@ -249,7 +255,7 @@ impl Core {
         Ok(Reply::Verdict(verdict))
     }
 
-    // Prepares that an event comes next.
+    // Prepares to append an event.
     fn prepare_append(&mut self, event: Event) -> Result<(Reply, Verdict), Refusal>
         ensures { MayPrepare self.old.machine (Command.Append event) result self.new }
     {
@@ -269,7 +275,7 @@ impl Core {
         Ok((Reply::Verdict(verdict), verdict))
     }
 
-    // Prepares that a key is of this kind.
+    // Prepares to make a key an object of this kind.
     fn prepare_model(&mut self, key: Key, kind: ModelKind) -> Result<(Reply, Verdict), Refusal>
         ensures { MayPrepare self.old.machine (Command.SetModel key kind) result self.new }
     {
@@ -279,7 +285,7 @@ impl Core {
         Ok((Reply::Verdict(verdict), verdict))
     }
 
-    // Prepares that a key has this budget.
+    // Prepares to give a key this budget.
     fn prepare_budget(&mut self, key: Key, n: u32) -> Result<(Reply, Verdict), Refusal>
         ensures { MayPrepare self.old.machine (Command.SetBudget key n) result self.new }
     {
@@ -289,7 +295,7 @@ impl Core {
         Ok((Reply::Verdict(verdict), verdict))
     }
 
-    // Prepares that all stays as it is.
+    // Prepares a command without an effect.
     fn prepare_verdict(&mut self) -> (Reply, Verdict)
         ensures { IsPrepared self.old.machine Command.Verdict result self.new }
     {

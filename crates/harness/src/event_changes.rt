@@ -1,4 +1,4 @@
-//! The steps that change history, store and tickets together.
+//! Steps that change history, store and tickets together.
 ghost use Rattle.std.specs.Prelude.{◌≡◌, ◌<◌, Some, IfOk, OnOk, OnErr, vec_len, vec_capacity};
 ghost use Rattle.processes.specs.MoveRule.{current_of};
 ghost use Rattle.history.specs.WellFormed.{moves_of};
@@ -15,8 +15,7 @@ use monitor::Monitor;
 use std::alloc::AllocError;
 use test_store::Store;
 
-/// Prepares to append an event that may come next, and gives the verdict that it brings. Such an event is refused only because memory ran
-/// out.
+/// Prepares to append an event that may come next, and returns the verdict after it. Such an event is refused only because memory ran out.
 pub(crate) fn append(monitor: &mut Monitor, event: Event) -> Result<Verdict, AllocError>
     requires { Admits monitor.old.now event }
     ensures prepared { OnOk result
@@ -30,8 +29,8 @@ pub(crate) fn append(monitor: &mut Monitor, event: Event) -> Result<Verdict, All
     }
 }
 
-/// Prepares that the current process of the thread invokes the operation, with room for a ticket. Gives the ticket, and the
-/// verdict that it brings.
+/// Prepares the invocation of the operation by the current process of the thread, with room for a ticket. Returns the ticket, and the
+/// verdict after the invocation.
 pub(crate) fn invoke(
     monitor: &mut Monitor,
     tickets: &mut Vec<Ticket>,
@@ -75,7 +74,7 @@ pub(crate) fn invoke(
     Ok((ticket, verdict))
 }
 
-/// Prepares that a fault strikes the store and is an event. Gives the verdict that it brings.
+/// Prepares a fault, which strikes the store and is an event of the history. Returns the verdict after it.
 pub(crate) fn strike(
     monitor: &mut Monitor,
     store: &mut Store,

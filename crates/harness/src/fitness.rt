@@ -1,4 +1,4 @@
-//! Whether each operation and fault that may come is one that history and store take.
+//! Tests whether history and store accept each operation and fault that may come.
 ghost use Rattle.std.specs.Prelude.{◌↔◌, IsTrue};
 ghost use Rattle.generators.specs.Generators.{generator_of, generators_of, AllItems, AllItemsOf, Each};
 ghost use Rattle.events.specs.Tables.{IsPart};
@@ -13,29 +13,30 @@ use test_store::{names_once, names_present};
 /// A test of an item.
 #[derive(Clone, Copy)]
 pub enum Test {
-    /// A fault names replicas below this number alone.
+    /// A fault must name only replicas with numbers below this one.
     IsPresent(u8),
-    /// An operation has a part of its table, and a fault names no replica twice.
+    /// An operation must have a part of its table, and a fault must not name a replica twice.
     IsInTables,
 }
 
-// Whether the part is the one that the name's line has for an invocation.
+// Returns whether the part is the one that the line of the name has for an invocation.
 macro_rules! is_invoked {
     ($name:expr, $part:expr; $($N:ident $text:literal $P:ident $how:ident [$($A:ident)*]),*) => {
         match $name {
             $(Name::$N => matches!($part, Part::$P { .. }),)*
+            Name::Own(_) => !matches!($part, Part::Set(_)),
         }
     };
 }
 
-// Whether the part is one of an invocation of this name.
+// Returns whether an invocation of this name may have the part.
 fn is_part(name: Name, part: &Part) -> bool
     ensures { IsTrue result ↔ IsPart name part.now }
 {
     each_name!(is_invoked; name, part)
 }
 
-// Whether the fault passes the test.
+// Returns whether the fault passes the test.
 fn fault_passes(test: Test, fault: &Fault) -> bool
     ensures { IsTrue result ↔ FaultPasses test fault.now }
 {
@@ -45,7 +46,7 @@ fn fault_passes(test: Test, fault: &Fault) -> bool
     }
 }
 
-// Whether the item passes the test.
+// Returns whether the item passes the test.
 fn item_passes(test: Test, item: &Item) -> bool
     ensures { IsTrue result ↔ Passes test item.now }
 {
@@ -58,7 +59,7 @@ fn item_passes(test: Test, item: &Item) -> bool
     }
 }
 
-// Whether each of the items passes the test.
+// Returns whether all items pass the test.
 fn each_passes(test: Test, items: &[Item]) -> bool
     ensures { IsTrue result ↔ Each (Passes test) items.now }
 {
@@ -70,7 +71,7 @@ fn each_passes(test: Test, items: &[Item]) -> bool
     true
 }
 
-/// Whether each item of the generator passes the test. Costs O(forms and items in it).
+/// Returns whether each item of the generator passes the test. Costs O(forms and items in it).
 #[cycle(pass)]
 pub(crate) fn all_items_pass(test: Test, generator: &Gen) -> bool
     ensures { IsTrue result ↔ AllItems (Passes test) (generator_of generator.now) }
@@ -99,7 +100,7 @@ fn all_children_pass(test: Test, children: &[Gen]) -> bool
     true
 }
 
-/// Whether each fault of the schedule passes the test. Costs O(faults in it).
+/// Returns whether each fault of the schedule passes the test. Costs O(faults in it).
 pub(crate) fn all_scheduled_pass(test: Test, schedule: &Schedule) -> bool
     ensures { IsTrue result ↔ Each (λ x. FaultPasses test x.1) schedule.now }
 {

@@ -1,9 +1,9 @@
-//! The code of the one-thread object, whose commands and laws are `machine`'s: commands in, verdicts out. It has a history under a
-//! monitor, a generator of operations and faults, a schedule of faults, a replicated store, and a ticket for each operation that
-//! was drawn.
+//! The code of the one-thread object, whose commands and laws are in `machine`. It takes commands and returns verdicts. It has a history
+//! under a monitor, a generator of operations and faults, and a schedule of faults. It also has a replicated store, and a ticket for each
+//! drawn operation.
 //!
-//! Each command is prepared, which may fail and changes nothing visible, and then committed, which takes no memory. So a board can enter a
-//! command on its tape between the two.
+//! Each command is first prepared and then committed. A preparation may fail, and changes nothing visible. A commit does not allocate. So a
+//! board can enter a command on its tape between the two.
 //!
 //! A call allocates only if its result can be `AllocError`, or a refusal because memory ran out.
 #![tactic(auto)]

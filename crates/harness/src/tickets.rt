@@ -1,4 +1,4 @@
-//! Tickets: which of them a command may be about, and what becomes of them.
+//! Tests and changes of tickets.
 ghost use Rattle.std.specs.Prelude.{◌≡◌, ◌↔◌, ◌%◌, ◌<◌, Some, None, IsTrue, IfOk, IfErr, OnOk, MatchOption, map};
 ghost use Rattle.test_store.specs.Store.{IsCount};
 ghost use Rattle.test_store.specs.declared.outcome.Outcome.{Outcome};
@@ -17,7 +17,7 @@ use models::{Found, Op, Part};
 use std::alloc::AllocError;
 use test_store::Outcome;
 
-/// The most tickets.
+/// The maximum number of tickets.
 const MOST_TICKETS: usize = 4_294_967_295;
 
 /// Tests that a thread may draw.
@@ -42,7 +42,7 @@ pub(crate) fn test_draw(history: &History, tickets: &[Ticket], thread: u32) -> R
     Ok(())
 }
 
-/// The ticket with this number, if there is one that is not stale.
+/// Returns the ticket with this number, if it exists and is not stale.
 fn ticket_at<'a>(tickets: &'a [Ticket], number: u32) -> Option<&'a Ticket>
     ensures { MatchOption result (HasNoTicket tickets.now number)
         (λ t. HasTicket tickets.now number t.now) }
@@ -55,7 +55,7 @@ fn ticket_at<'a>(tickets: &'a [Ticket], number: u32) -> Option<&'a Ticket>
     if ticket.stale { None } else { Some(ticket) }
 }
 
-/// The ticket with this number, which was not served, and whose operation is open.
+/// Returns the ticket with this number, if it was not served and its operation is open. Otherwise returns the refusal.
 pub(crate) fn ticket_to_serve<'a>(
     history: &History,
     tickets: &'a [Ticket],
@@ -78,7 +78,8 @@ pub(crate) fn ticket_to_serve<'a>(
     Ok(ticket)
 }
 
-/// The completion of the ticket with this number, as its serve came out: it was served, and its operation is open.
+/// Returns the completion of the ticket's operation by the outcome of its serve, if it was served and its operation is open. Otherwise
+/// returns the refusal.
 pub(crate) fn completion_of_ticket(
     history: &History,
     tickets: &[Ticket],
@@ -105,12 +106,12 @@ pub(crate) fn completion_of_ticket(
     Ok(completion(ticket, outcome)?)
 }
 
-// Whether the operation of a ticket is open: then its process is its thread's current one, and has it open.
+// Returns whether the operation of a ticket is open. If it is, its process is the current one of its thread.
 fn is_open(history: &History, ticket: &Ticket) -> bool
     requires { StandsFor history.now.concurrency history.now.events ticket.now }
     ensures { IsTrue result ↔ IsStillOpen history.now.events ticket.now }
 {
-    // The call says that the events are a history.
+    // The clauses of `len` say that the events are a history.
     let _len = history.len();
     if history.current(ticket.thread) != ticket.process {
         return false;
@@ -121,7 +122,7 @@ fn is_open(history: &History, ticket: &Ticket) -> bool
     }
 }
 
-// The event by which the operation of a ticket completes whose serve came to this.
+// Returns the event that completes the operation of a ticket whose serve had this outcome.
 fn completion(ticket: &Ticket, outcome: &Outcome) -> Result<Event, AllocError>
     ensures { IfOk result (λ event.
         event ≡ completion ticket.now.process ticket.now.op outcome.now) }
@@ -140,7 +141,7 @@ fn completion(ticket: &Ticket, outcome: &Outcome) -> Result<Event, AllocError>
     })
 }
 
-// The operation of an ok: its part says what was found.
+// Returns the operation of an ok: its part is the found value.
 fn answered(op: Op, found: &Found) -> Result<Op, AllocError>
     ensures { IfOk result (λ answer.
         answer ≡ record op { part = part_of found.now op.part }) }
@@ -156,7 +157,7 @@ fn answered(op: Op, found: &Found) -> Result<Op, AllocError>
     Ok(Op { name, key, part })
 }
 
-/// The replica through which a thread's operations go.
+/// Returns the replica through which a thread's operations go.
 pub(crate) fn replica_of_thread(thread: u32, replicas: u8) -> u8
     requires { IsCount replicas }
     ensures entry { result ≡ thread % replicas }
@@ -165,14 +166,14 @@ pub(crate) fn replica_of_thread(thread: u32, replicas: u8) -> u8
     (thread % u32::from(replicas)) as u8
 }
 
-/// Notes the outcome of serving a ticket.
+/// Stores the outcome of a ticket's serve.
 pub(crate) fn note_outcome(ticket: &mut Ticket, outcome: Outcome)
     ensures { ticket.new ≡ served_as outcome ticket.old }
 {
     ticket.outcome = Some(outcome);
 }
 
-/// A cut of the history makes the tickets stale whose invocation it cuts.
+/// Makes the tickets stale whose invocation a cut at `n` removes.
 pub(crate) fn make_stale(tickets: &mut Vec<Ticket>, n: u32)
     ensures { tickets.new.items ≡ map (stale_from n) tickets.old.items }
 {
@@ -181,7 +182,7 @@ pub(crate) fn make_stale(tickets: &mut Vec<Ticket>, n: u32)
     }
 }
 
-// The same of one ticket.
+// Makes a ticket stale if a cut at `n` removes its invocation.
 fn make_one_stale(ticket: &mut Ticket, n: u32)
     ensures { ticket.new ≡ stale_from n ticket.old }
 {

@@ -15,7 +15,7 @@ use linspec::Verdict;
 use machine::Reply;
 
 impl Core {
-    // Prepares that a thread draws.
+    // Prepares the draw of a thread.
     pub(crate) fn prepare_draw(&mut self, thread: u32) -> Result<(Reply, Verdict), Refusal>
         ensures { MayPrepare self.old.machine (Command.Draw thread) result self.new }
     {
@@ -47,7 +47,7 @@ impl Core {
         }
     }
 
-    // Prepares that the operation of a ticket is carried out on the store.
+    // Prepares the serve of a ticket's operation on the store.
     pub(crate) fn prepare_serve(&mut self, number: u32) -> Result<(Reply, Verdict), Refusal>
         ensures { MayPrepare self.old.machine (Command.Serve number) result self.new }
     {
@@ -61,7 +61,7 @@ impl Core {
         Ok((Reply::Served(copy), self.monitor.verdict()))
     }
 
-    // Prepares that the operation of a ticket is completed.
+    // Prepares the completion of a ticket's operation.
     pub(crate) fn prepare_finish(&mut self, number: u32) -> Result<(Reply, Verdict), Refusal>
         ensures { MayPrepare self.old.machine (Command.Finish number) result self.new }
     {
@@ -72,7 +72,7 @@ impl Core {
         Ok((Reply::Verdict(verdict), verdict))
     }
 
-    // Prepares that the nemesis strikes.
+    // Prepares the strike of the nemesis.
     pub(crate) fn prepare_nemesis(&mut self) -> Result<(Reply, Verdict), Refusal>
         ensures { MayPrepare self.old.machine Command.Nemesis result self.new }
     {
@@ -84,7 +84,7 @@ impl Core {
         }
     }
 
-    // Prepares that the fault strikes that is due.
+    // Prepares the fault that is due.
     fn prepare_due(&mut self) -> Result<(Reply, Verdict), Refusal>
         requires { IsSome (first_due self.old.machine) }
         ensures { MayPrepare self.old.machine Command.Nemesis result self.new }
@@ -103,7 +103,7 @@ impl Core {
         Ok((Reply::Fault { fault: copy, index }, verdict))
     }
 
-    // Prepares that a fault strikes that the generator gives, if none is due.
+    // Prepares a fault that the generator gives. No fault is due.
     fn prepare_generated(&mut self) -> Result<(Reply, Verdict), Refusal>
         requires { first_due self.old.machine ≡ None }
         ensures { MayPrepare self.old.machine Command.Nemesis result self.new }

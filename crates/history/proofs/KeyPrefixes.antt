@@ -2,7 +2,7 @@
 use Rattle.std.proofs.Common.{◌≡◌, ℕ, ◌+◌, ◌<◌, true, false, cond, Bool, Option, Some, IfSome, Result, Ok, Err, IfOk, List, [], ◌∷◌, ◌++◌, length, take, get_or, sym, ap, ◌∙◌, subst, arith}
 use Rattle.std.proofs.lemmas.List.{take_more, append-nil, length-take-le}
 use Rattle.std.proofs.lemmas.List.Elements.{filter-append}
-use Rattle.edn.specs.declared.value.Edn.{Edn}
+use Rattle.edn_values.specs.declared.value.Edn.{Edn}
 use Rattle.events.specs.declared.event.Event.{Event}
 use Rattle.events.specs.Events.{indexed_from, is_event_of, events_of_key}
 use Rattle.events.specs.Tables.{IsInTables}

@@ -1,4 +1,4 @@
--- Promise: histories that show what the definitions say
+-- Promise: examples of histories for the laws
 use Rattle.std.specs.Prelude.{ℕ, pos, None, List, [], ◌∷◌}
 use Rattle.models.specs.declared.operation.Name.TheVariants.{Read, Write}
 use Rattle.models.specs.declared.operation.Part.{Part}

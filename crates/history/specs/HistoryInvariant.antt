@@ -12,29 +12,29 @@ use Rattle.history.specs.declared.history.Prepared.{Prepared}
 use Rattle.history.specs.declared.history.Prepared.TheVariants.{Nothing, Push, Cut}
 use Rattle.history.specs.WellFormed.{IsConcurrency, IsHistoryOf, move_by, moves_of, open_index}
 
--- the open operation of a thread after an event of index n of its current process
+-- the open operation of a thread after an event with index n of its current process
 abbrev pub open_after : ℕ → EventKind → Option ℕ
 open_after n Invoke = Some n
 open_after n _ = None
 
--- if the move may come, the new threads stand after it too
+-- if the move may come, the new threads have the state after it
 abbrev pub CarriesOn : List Thread → Move → List Thread → Type 0
 CarriesOn old m new =
     (length new ≡ length old)
     × ((moves : List Move) → StandAfter old moves → MayMove (length old) moves m → StandAfter new (moves ++ m ∷ []))
 
--- after an event of index n the thread of its process moves on
+-- after an event with index n, the thread of its process has moved
 abbrev pub MovesOn : ℕ → EventKind → Process → List Thread → List Thread → List (Option ℕ) → List (Option ℕ) → Type 0
 MovesOn n kind (Client p) old new opened later =
     CarriesOn old (move_by kind p) new × (later ≡ slice_set opened (thread_of (length opened) p) (open_after n kind))
 MovesOn n kind Nemesis old new opened later = (new ≡ old) × (later ≡ opened)
 
--- there are this many processes still
+-- there are more process numbers after this one
 abbrev pub HasNext : Process → Type 0
 HasNext (Client p) = p + 64 < 2 ^ 32
 HasNext Nemesis = Unit {0}
 
--- a history of at most 2^20 events: its threads stand after its moves, and what each has open is known
+-- a history of at most 2^20 events: its threads have the state after its moves, and their open operations are known
 pub record IsSoundHistory (c : ℕ) (events : List Event) (threads : List Thread) (opened : List (Option ℕ)) : Type 0 where
   pub concurrency : IsConcurrency c
   pub history : IsHistoryOf c events
@@ -44,14 +44,14 @@ pub record IsSoundHistory (c : ℕ) (events : List Event) (threads : List Thread
   pub opens : length opened ≡ c
   pub opens_are : (t : ℕ) → t < c → slice_get opened t ≡ Some (open_index c events t)
 
--- the events that a prepared change brings, where the one that it appends stands behind the others
+-- the events after a prepared change. An appended event is stored after the others
 abbrev pub brought : List Event → Prepared → Option (List Event)
 brought events Nothing = None
 brought events Push = Some events
 brought events (Cut n clients) = Some (take n events)
 
--- n events are committed, and behind them stands the one that is prepared, if one is, and nothing else. The prepared change may come: with
--- the event too they are a history; or there are n events, and the clients are those of the first of them
+-- n events are committed. After them only the prepared event is stored, if there is one. The prepared change may come: the events with the
+-- appended one are a history, or there are at least n events, and the clients are those of the first n
 abbrev pub IsReady : ℕ → ℕ → List Event → Prepared → Type 0
 IsReady c n events Nothing = length events ≡ n
 IsReady c n events Push = (length events ≡ n + 1) × IsHistoryOf c events

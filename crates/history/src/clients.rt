@@ -1,4 +1,4 @@
-//! The clients of a history.
+//! The clients of a history: their threads and open operations.
 ghost use Rattle.std.specs.Prelude.{◌≡◌, ℕ, ◌+◌, ◌<◌, ◌≤◌, ◌^◌, [], Some, None, length, slice_get, IfOk, IfErr, OnOk};
 ghost use Rattle.processes.specs.MoveRule.{IsConcurrency};
 ghost use Rattle.processes.specs.Threads.{StandAfter, MayNotStart};
@@ -10,7 +10,7 @@ use events::{Event, EventKind, Process};
 use processes::Threads;
 use std::alloc::{AllocError, Global};
 
-/// The threads, and the index of the invocation that each has open.
+/// The threads, and for each thread the index of its open invocation, if it has one.
 #[derive(Drop)]
 pub struct Clients {
     pub threads: Threads,
@@ -18,8 +18,8 @@ pub struct Clients {
 }
 
 impl Clients {
-    /// Those of a history without events. [`Refusal::BadConcurrency`] if the concurrency is not 1 to 64, else [`Refusal::NoMemory`] if an
-    /// allocation fails. Costs O(threads).
+    /// Returns the clients of a history without events. [`Refusal::BadConcurrency`] if `concurrency` is not 1 to 64, otherwise
+    /// [`Refusal::NoMemory`] if an allocation fails. Costs O(threads).
     pub fn new(alloc: Global, concurrency: u32) -> Result<Clients, Refusal>
         ensures limits { OnOk result (IsConcurrency concurrency) }
         ensures number { IfOk result (λ clients. length clients.threads ≡ concurrency) }
@@ -34,7 +34,7 @@ impl Clients {
         Ok(Clients { threads, opened })
     }
 
-    /// Those that the events of a history make. [`Refusal::NoMemory`] if an allocation fails. Costs O(all events).
+    /// Returns the clients after the events of a history. [`Refusal::NoMemory`] if an allocation fails. Costs O(events).
     pub fn after(alloc: Global, concurrency: u32, events: &[Event]) -> Result<Clients, Refusal>
         requires limits { IsConcurrency concurrency }
         requires history { IsHistoryOf concurrency events.now }
@@ -51,8 +51,8 @@ impl Clients {
         Ok(clients)
     }
 
-    /// Moves the thread of the process after its event with this index. No clause says anything if the process may not have this event.
-    /// Takes constant time.
+    /// Updates the thread of the process after its event with this index. No clause holds if the process may not have this event. Takes
+    /// constant time.
     pub fn move_on(&mut self, index: u32, kind: EventKind, process: Process)
         requires some { 0 < length self.old.opened.items }
         requires next { HasNext process }
@@ -67,7 +67,7 @@ impl Clients {
     }
 }
 
-// The open operation of a thread after an event of its current process.
+// Returns the index of the thread's open invocation after an event of its current process, if an invocation is open.
 fn open_after(index: u32, kind: EventKind) -> Option<u32>
     ensures { result ≡ open_after index kind }
 {
@@ -77,7 +77,7 @@ fn open_after(index: u32, kind: EventKind) -> Option<u32>
     }
 }
 
-// The process makes the move of an event of this kind.
+// Makes the move of `process` for an event of this kind.
 #[tactic(auto, using(crate::proofs::Carrying::carried))]
 fn carry_on(threads: &mut Threads, kind: EventKind, process: u32) -> Result<(), Refusal>
     requires { process + 64 < 2 ^ 32 }
@@ -91,7 +91,7 @@ fn carry_on(threads: &mut Threads, kind: EventKind, process: u32) -> Result<(), 
     }
 }
 
-// So many threads that have nothing open.
+// Returns `concurrency` threads without an open operation.
 fn none_open(alloc: Global, concurrency: u32) -> Result<Vec<Option<u32>>, AllocError>
     ensures number { IfOk result (λ opened. length opened.items ≡ concurrency) }
     ensures none { IfOk result (λ opened. (t : ℕ) → t < concurrency →

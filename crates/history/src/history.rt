@@ -1,49 +1,52 @@
-//! Histories: events in order, each well-formed after those before it.
+//! Histories: lists of events, each of which is well-formed after the events before it.
 ghost use Rattle.std.specs.Prelude.{◌≡◌, Some, ◌<◌, ◌≤◌, ◌++◌, ◌∷◌, ◌^◌, ◌↔◌, [], take, length, slice_get, IsTrue, IsSome, IfSome, option_map, OnOk, IfOk, IfErr, OnErr, IsErrOf};
 ghost use Rattle.std.specs.Option.{option_copied};
 ghost use Rattle.history.specs.WellFormed.{IsConcurrency, no_events, Admits, MayNotCut, idle, with_next, with_events, IsWellFormed, MayRefuse, IsHistoryOf, moves_of, open_of, open_index, FollowsRule, BreaksRule, Refuses};
-ghost use Rattle.edn.specs.View.{value_of};
+ghost use Rattle.edn_values.specs.View.{value_of};
 ghost use Rattle.events.specs.declared.event.Event.{Event};
 ghost use Rattle.events.specs.Events.{indexed_from, events_of_key};
-ghost use Rattle.events.specs.Spelling.{Spells};
-ghost use Rattle.events.specs.EventMap.{map_of, with_index};
+ghost use Rattle.events.specs.OwnNames.{own_by};
+ghost use Rattle.events.specs.Spelling.{Spells, SpellsBy};
+ghost use Rattle.events.specs.EventMap.{map_by, map_of, with_index, CanBeWritten, IsOfProgram};
 ghost use Rattle.processes.specs.MoveRule.{current_of};
 ghost use Rattle.processes.specs.Threads.{MayNotStart};
 
 use crate::clients::Clients;
 use edn::{Edn, Refusal};
-use events::{Body, Event, EventKind, Process, completes, is_in_tables, map_of_event};
+use events::{
+    Body, Event, EventKind, Process, completes, is_in_tables, map_of_event, map_of_event_with,
+};
 use models::{Key, Op};
+use object_names::Names;
 use std::alloc::{AllocError, Global};
 use std::marker::Model;
 use std::mem::replace;
 
-/// The most events of a history.
+/// The maximum number of events of a history.
 pub const MOST_EVENTS: u32 = 1_048_576;
 
-/// A history of events, in the manner of Jepsen (<https://github.com/jepsen-io/jepsen>): an event enters it only if
-/// it is well-formed after those before it. The index of an event is its place, from 0. A history holds at most 2^20
-/// events, of 1 to 64 threads.
+/// A history of events, as in Jepsen (<https://github.com/jepsen-io/jepsen>). An event can be appended only if it is well-formed after the
+/// events before it. The index of an event is its place, from 0. A history has at most 2^20 events and 1 to 64 threads.
 ///
-/// Each change is prepared, which may fail and changes nothing but what is prepared, and then committed. A change that was prepared before
-/// is dropped.
+/// Each change is first prepared and then committed. A preparation may fail. It replaces the prepared change, and does not change the
+/// events. A commit cannot fail.
 pub struct History {
     concurrency: u32,
-    /// So many events are committed.
+    /// The number of committed events.
     count: u32,
-    /// The committed events, and then the prepared one, if there is one.
+    /// The committed events, and after them the prepared event, if there is one.
     events: Vec<Event>,
     clients: Clients,
     prepared: Prepared,
 }
 
-/// What may be committed.
+/// The prepared change.
 #[derive(Drop)]
 enum Prepared {
     Nothing,
-    /// The event behind the committed ones.
+    /// Append the event after the committed ones.
     Push,
-    /// The first n events alone, with their clients. This case is rare, so the clients are in a box.
+    /// Keep only the first n events, with their clients. This case is rare, so the clients are in a box.
     Cut(u32, Box<Clients>),
 }
 
@@ -66,7 +69,7 @@ impl Model for History {
         × IsReady a.concurrency a.count a.events.items a.prepared };
 }
 
-// So that crates above give one back by one call.
+// With this implementation, a crate above drops a history by one call.
 impl Drop for History {
     fn drop(self) {
         let History {
@@ -80,10 +83,10 @@ impl Drop for History {
 }
 
 impl History {
-    /// The history without events, of threads 0 to `concurrency` - 1. It costs O(threads).
+    /// Returns the history without events of the threads 0 to `concurrency` - 1. Costs O(threads).
     ///
     /// # Errors
-    /// [`Refusal::BadConcurrency`] if the concurrency is not 1 to 64; else [`Refusal::NoMemory`] if an allocation fails.
+    /// [`Refusal::BadConcurrency`] if `concurrency` is not 1 to 64; otherwise [`Refusal::NoMemory`] if an allocation fails.
     pub fn new(alloc: Global, concurrency: u32) -> Result<History, Refusal>
         ensures limits { OnOk result (IsConcurrency concurrency) }
         ensures opened { IfOk result (λ history. history ≡ no_events concurrency) }
@@ -99,14 +102,14 @@ impl History {
         })
     }
 
-    /// Prepares to append an event: tests it, and puts it behind those that are committed.
+    /// Prepares to append an event: tests it, and stores it after the committed events.
     ///
     /// # Errors
     /// The refusal of the first test that the event does not pass. The order is [`Refusal::BadValue`], [`Refusal::BadIndex`],
     /// [`Refusal::HistoryFull`], then [`Refusal::WrongProcess`] and [`Refusal::Busy`] for an invocation, or [`Refusal::NotOpen`] and
-    /// [`Refusal::Mismatch`] for a completion; [`Refusal::NoMemory`] last. Then nothing is prepared.
+    /// [`Refusal::Mismatch`] for a completion; [`Refusal::NoMemory`] is last. After an error nothing is prepared.
     ///
-    /// The time does not grow with the history, but if its memory grows.
+    /// The time does not depend on the length of the history, unless the memory of the history grows.
     #[inline(always)]
     pub fn prepare_push(&mut self, event: Event) -> Result<(), Refusal>
         ensures well_formed { OnOk result (Admits self.old event) }
@@ -124,7 +127,7 @@ impl History {
         Ok(())
     }
 
-    /// The event that is prepared to be appended, if one is.
+    /// Returns the event that is prepared to be appended, if there is one.
     pub fn prepared_event(&self) -> Option<&Event>
         ensures { (event : Event) → self.now.next ≡ Some (self.now.events ++ event ∷ [])
             → option_copied result ≡ Some event }
@@ -132,11 +135,11 @@ impl History {
         self.events.get(self.count as usize)
     }
 
-    /// Prepares to keep the first `n` events alone, and the threads that they make. It costs O(n).
+    /// Prepares to keep only the first `n` events, and the clients after them. Costs O(n).
     ///
     /// # Errors
-    /// [`Refusal::NoSuchIndex`] if there are fewer events; else [`Refusal::NoMemory`] if memory was refused. Then
-    /// nothing is prepared.
+    /// [`Refusal::NoSuchIndex`] if there are fewer events; otherwise [`Refusal::NoMemory`] if an allocation fails. After an error nothing
+    /// is prepared.
     pub fn prepare_cut(&mut self, n: u32) -> Result<(), Refusal>
         ensures within { OnOk result (n ≤ length self.old.events) }
         ensures prepared { OnOk result (self.new ≡ with_next (take n self.old.events) self.old) }
@@ -156,7 +159,7 @@ impl History {
         Ok(())
     }
 
-    /// Carries out what is prepared. It takes no memory and cannot fail, and costs the drop of the old parts.
+    /// Carries out the prepared change. Does not allocate, and cannot fail. Costs the drop of the replaced parts.
     #[inline(always)]
     pub fn commit(&mut self)
         requires { IsSome self.old.next }
@@ -177,8 +180,8 @@ impl History {
         }
     }
 
-    /// Appends an event that is well-formed after those before it: [`prepare_push`](History::prepare_push) and
-    /// [`commit`](History::commit) in one.
+    /// Appends an event, if it is well-formed after the events before it. Does the same as [`prepare_push`](History::prepare_push) and
+    /// [`commit`](History::commit).
     ///
     /// # Errors
     /// Those of [`prepare_push`](History::prepare_push); the events are then as before, and nothing is prepared.
@@ -195,8 +198,8 @@ impl History {
         Ok(())
     }
 
-    /// Keeps the first `n` events alone, and the threads that they make: [`prepare_cut`](History::prepare_cut) and
-    /// [`commit`](History::commit) in one.
+    /// Keeps only the first `n` events, and the clients after them. Does the same as [`prepare_cut`](History::prepare_cut) and
+    /// [`commit`](History::commit).
     ///
     /// # Errors
     /// Those of [`prepare_cut`](History::prepare_cut); the events are then as before, and nothing is prepared.
@@ -212,7 +215,7 @@ impl History {
         Ok(())
     }
 
-    // Drops what is prepared, if anything is.
+    // Drops the prepared change, if there is one.
     fn drop_prepared(&mut self)
         ensures { self.new ≡ idle self.old }
     {
@@ -222,7 +225,7 @@ impl History {
         }
     }
 
-    // Tests an event, all but whether there is memory for it.
+    // Tests an event by all tests except the one for memory.
     #[inline(always)]
     fn test(&self, event: &Event) -> Result<(), Refusal>
         ensures ok { OnOk result (IsWellFormed self.now.concurrency self.now.events event.now) }
@@ -243,7 +246,7 @@ impl History {
         }
     }
 
-    // The open operation of a process.
+    // Returns the open operation of a process, if it has one.
     #[inline(always)]
     fn open_operation(&self, process: u32) -> Option<&Op>
         ensures { option_copied result ≡ option_map (λ x. x.1) (open_of self.now.events process) }
@@ -281,7 +284,7 @@ impl History {
         }
     }
 
-    /// The number of threads, 1 to 64.
+    /// Returns the number of threads, 1 to 64.
     pub fn concurrency(&self) -> u32
         ensures value { result ≡ self.now.concurrency }
         ensures limits { IsConcurrency result }
@@ -289,7 +292,8 @@ impl History {
         self.concurrency
     }
 
-    /// The number of events, at most 2^20, which is the index of the next event. These clauses about the events hold for every history.
+    /// Returns the number of events, which is at most 2^20 and is the index of the next event. The clauses `limit` and `history` hold for
+    /// every history.
     pub fn len(&self) -> u32
         ensures value { result ≡ length self.now.events }
         ensures limit { result ≤ 2 ^ 20 }
@@ -298,21 +302,21 @@ impl History {
         self.count
     }
 
-    /// Whether there is no event.
+    /// Returns whether there is no event.
     pub fn is_empty(&self) -> bool
         ensures { IsTrue result ↔ (self.now.events ≡ []) }
     {
         self.count == 0
     }
 
-    /// The events, in order.
+    /// Returns the events in order.
     pub fn events(&self) -> &[Event]
         ensures { result.now ≡ self.now.events }
     {
         &self.events.as_slice()[..self.count as usize]
     }
 
-    /// The events of a key, in order, each with its index, copied into memory of their own. Costs O(all events).
+    /// Returns the events of a key in order, each with its index, as copies with memory of their own. Costs O(all events).
     ///
     /// # Errors
     /// `AllocError` if an allocation fails.
@@ -332,8 +336,9 @@ impl History {
         Ok(found)
     }
 
-    /// The map of an event: its index, type, process, name and value, in this order. It spells the event, which states its index. It costs
-    /// O(members of a set, or a partition's groups), and else constant time.
+    /// The map of an event: its index, type, process, name and value, in this order. It spells the event, which states its index. The map of
+    /// an event with an own name has no name: see [`to_edn_with`](History::to_edn_with). It costs O(members of a set, or a partition's
+    /// groups), and else constant time.
     ///
     /// # Errors
     /// `AllocError` if an allocation fails.
@@ -342,7 +347,7 @@ impl History {
         ensures value { IfOk result (λ element. IfSome (slice_get self.now.events index)
             (λ event. value_of element ≡ map_of index event)) }
         ensures spells { IfOk result (λ element. IfSome (slice_get self.now.events index)
-            (λ event. Spells (value_of element) (with_index index event))) }
+            (λ event. IsOfProgram event.body → Spells (value_of element) (with_index index event))) }
     {
         map_of_event(
             *self.events.allocator(),
@@ -351,7 +356,24 @@ impl History {
         )
     }
 
-    /// The process that the thread's next invocation must name (the process rule of the Jepsen documentation).
+    /// The map of an event, as [`to_edn`](History::to_edn) makes it, if a file of rules gives these names. It spells the event by these names
+    /// if they have the name of its operation. It costs O(names) in addition.
+    ///
+    /// # Errors
+    /// `AllocError` if an allocation fails.
+    pub fn to_edn_with(&self, names: Option<&Names>, index: u32) -> Result<Edn, AllocError>
+        requires { index < length self.now.events }
+        ensures value { IfOk result (λ element. IfSome (slice_get self.now.events index)
+            (λ event. value_of element ≡ map_by (option_copied names.entry) index event)) }
+        ensures spells { IfOk result (λ element. IfSome (slice_get self.now.events index)
+            (λ event. CanBeWritten (option_copied names.entry) event.kind event.process event.body
+            → SpellsBy (own_by (option_copied names.entry)) (value_of element) (with_index index event))) }
+    {
+        let event = &self.events()[index as usize];
+        map_of_event_with(*self.events.allocator(), names, index, event)
+    }
+
+    /// Returns the process that the next invocation of the thread must name (the process rule of the Jepsen documentation).
     pub fn current(&self, thread: u32) -> u32
         requires { thread < self.now.concurrency }
         ensures { result ≡ current_of self.now.concurrency (moves_of self.now.events) thread }
@@ -359,7 +381,7 @@ impl History {
         self.clients.threads.current(thread)
     }
 
-    /// The index of the invocation that a thread has open, if it has one.
+    /// Returns the index of the thread's open invocation, if it has one.
     pub fn open_at(&self, thread: u32) -> Option<u32>
         requires { thread < self.now.concurrency }
         ensures { result ≡ open_index self.now.concurrency self.now.events thread }
@@ -368,7 +390,7 @@ impl History {
     }
 }
 
-// Keeps the first `n` events alone.
+// Keeps only the first `n` events.
 #[inline(never)]
 fn keep_first(events: &mut Vec<Event>, n: u32)
     ensures { events.new.items ≡ take n events.old.items }
@@ -376,7 +398,7 @@ fn keep_first(events: &mut Vec<Event>, n: u32)
     events.truncate(n as usize);
 }
 
-// Puts other clients in the place of these.
+// Replaces the clients by `others`.
 #[inline(never)]
 fn put(clients: &mut Clients, others: Box<Clients>)
     ensures { clients.new ≡ others.value }

@@ -1,5 +1,5 @@
-//! Histories of events: which event may follow which, by the process rule, and why another one is refused. The crate `events` below defines
-//! events and their spelling; its names are exported here too.
+//! Histories of events. The process rule and other tests define which event may follow which, and why another event is refused. The crate
+//! `events` defines events and their spelling, and its names are exported here too.
 //!
 //! A call allocates only if its result can be `AllocError`, or a refusal because memory ran out.
 #![tactic(auto)]

@@ -1,4 +1,4 @@
-//! Worked histories, with the answers that the rule gives.
+//! Examples of histories, with the answers that the rule gives.
 use crate::histories::Action::{
     Cut, CutInHalves, PrepareCut, PreparePush, Push, PushInHalves, PushTwice,
 };
@@ -25,7 +25,7 @@ fn written(kind: EventKind, process: u32, value: i64) -> Event {
     }
 }
 
-// How many events there are, if any, the process of thread 0, its open invocation, and the kind of the prepared event.
+// The visible state: the number of events, the process of thread 0, its open invocation, and the kind of the prepared event.
 type Seen = (Option<u32>, u32, Option<u32>, Option<EventKind>);
 
 fn seen(history: &History) -> Seen {
@@ -42,8 +42,8 @@ fn seen(history: &History) -> Seen {
     (len, history.current(0), history.open_at(0), prepared)
 }
 
-// A change of a history: an event of a write, by its process and value, a partition that names a replica twice, or a cut. It is made in one
-// call, in its first half alone, or in two halves if the history is read between them.
+// A change of a history: a write event with its process and value, a partition that names a replica twice, or a cut. A change is made in
+// one call, or only prepared, or prepared and committed with a read of the history between.
 #[derive(Clone, Copy)]
 enum Action {
     Push(EventKind, u32, i64),
@@ -85,7 +85,7 @@ fn push_twice(history: &mut History, alloc: Global) -> Result<(), Refusal> {
     })
 }
 
-// Makes the change, and returns the answer.
+// Makes the change, and returns its answer.
 fn answer(history: &mut History, alloc: Global, action: Action) -> Result<(), Refusal> {
     match action {
         Push(kind, process, value) => history.push(written(kind, process, value)),
@@ -100,10 +100,10 @@ fn answer(history: &mut History, alloc: Global, action: Action) -> Result<(), Re
     }
 }
 
-// The change, its answer, and the visible state then.
+// A change, its answer, and the visible state after it.
 type Row = (Action, Result<(), Refusal>, Seen);
 
-// Whether each row is answered and seen so.
+// Returns whether each row has its answer and its visible state.
 fn are_answered(history: &mut History, alloc: Global, rows: &[Row]) -> bool {
     for (action, want, then) in rows {
         if answer(history, alloc, *action) != *want || seen(history) != *then {
@@ -113,7 +113,7 @@ fn are_answered(history: &mut History, alloc: Global, rows: &[Row]) -> bool {
     true
 }
 
-// The same in a new history.
+// Returns whether each row has its answer and its visible state in a new history.
 fn goes(alloc: Global, concurrency: u32, rows: &[Row]) -> Result<bool, Refusal> {
     let mut history = History::new(alloc, concurrency)?;
     Ok(are_answered(&mut history, alloc, rows))
@@ -121,7 +121,7 @@ fn goes(alloc: Global, concurrency: u32, rows: &[Row]) -> Result<bool, Refusal> 
 
 const NONE: Seen = (None, 0, None, None);
 
-// No partition names a replica twice.
+// A partition that names a replica twice is refused.
 const TWICE: [Row; 2] = [
     (PushTwice, Err(BadValue), NONE),
     (Push(Invoke, 0, 3), Ok(()), ONE_OPEN),
@@ -131,7 +131,7 @@ const ONE_PREPARED: Seen = (None, 0, None, Some(Invoke));
 
 const ONE_OPEN: Seen = (Some(1), 0, Some(0), None);
 
-// A prepared event is not among the events until its commit; the next one takes its place, and after a refusal none is prepared.
+// A prepared event is not among the events until its commit. The next prepared event replaces it, and after a refusal nothing is prepared.
 const PREPARED: [Row; 5] = [
     (PreparePush(Invoke, 0, 3), Ok(()), ONE_PREPARED),
     (PreparePush(Done, 0, 3), Err(NotOpen), NONE),
@@ -140,19 +140,19 @@ const PREPARED: [Row; 5] = [
     (Push(Done, 0, 4), Ok(()), (Some(2), 0, None, None)),
 ];
 
-// The history shows the event that it has prepared to append until it is carried out. A cut is not an event.
+// The history shows the prepared event until it is committed. A cut is not an event.
 const SHOWN: [Row; 3] = [
     (Cut(0), Ok(()), NONE),
     (PushInHalves(Invoke, 0, 3, ONE_PREPARED), Ok(()), ONE_OPEN),
     (PrepareCut(0), Ok(()), ONE_OPEN),
 ];
 
-// A process has crashed, and the next one of its thread has invoked.
+// The state after a process has crashed and the next process of its thread has invoked.
 const THREE: Seen = (Some(3), 2, Some(2), None);
 
 const THREE_AND_ONE: Seen = (Some(3), 2, Some(2), Some(Done));
 
-// A cut leaves the first events, and the threads as these made them; it waits for its commit, and takes the place of another change.
+// A cut keeps the first events, and the threads after them. It waits for its commit, and replaces another prepared change.
 const CUTS: [Row; 12] = [
     (Push(Invoke, 0, 2), Ok(()), ONE_OPEN),
     (Push(Info, 0, 2), Ok(()), (Some(2), 2, None, None)),
@@ -168,7 +168,7 @@ const CUTS: [Row; 12] = [
     (Push(Invoke, 0, 5), Ok(()), ONE_OPEN),
 ];
 
-// Concurrencies, and the rows of a history of so many threads, or its refusal.
+// Concurrencies, each with the rows of a history of this number of threads, or with its refusal.
 const HISTORIES: [(u32, &[Row], Result<bool, Refusal>); 6] = [
     (0, &[], Err(BadConcurrency)),
     (65, &[], Err(BadConcurrency)),
@@ -178,7 +178,7 @@ const HISTORIES: [(u32, &[Row], Result<bool, Refusal>); 6] = [
     (2, &CUTS, Ok(true)),
 ];
 
-// Key 7 is written 3, and then read.
+// A write of 3 to key 7, and then a read.
 const WRITE_AND_READ: &str = "
     {:type :invoke, :process 0, :f :write, :value [7 3]}
     {:type :ok, :process 0, :f :write, :value [7 3]}
@@ -190,7 +190,7 @@ const PARTITION: &str = "
     {:type :info, :process :nemesis, :f :partition, :value [[0] [1 2]]}
     {:type :invoke, :process 0, :f :write, :value [7 3]}";
 
-// Whether the event of this index has this text.
+// Returns whether the event with this index has this text.
 fn is_text(alloc: Global, history: &History, index: u32, want: &[u8]) -> bool {
     if index >= history.len() {
         return false;
@@ -202,7 +202,7 @@ fn is_text(alloc: Global, history: &History, index: u32, want: &[u8]) -> bool {
     in_profile(&element) && write(&element, &mut text).is_ok() && text.as_slice() == want
 }
 
-// Whether the events are of these kinds and have the indices from 0 on.
+// Returns whether the events have these kinds and the indices from 0 on.
 fn are_kinds(events: &[(u32, Event)], kinds: &[EventKind]) -> bool {
     if events.len() != kinds.len() {
         return false;
@@ -215,7 +215,7 @@ fn are_kinds(events: &[(u32, Event)], kinds: &[EventKind]) -> bool {
     true
 }
 
-// Whether the events of the key are of these kinds and have the indices from 0 on.
+// Returns whether the events of the key have these kinds and the indices from 0 on.
 fn has_kinds(history: &History, key: u16, kinds: &[EventKind]) -> bool {
     match history.events_of(key) {
         Ok(found) => are_kinds(found.as_slice(), kinds),
@@ -223,12 +223,12 @@ fn has_kinds(history: &History, key: u16, kinds: &[EventKind]) -> bool {
     }
 }
 
-// The set that a read answers is not in order.
+// A read of a set, whose members are not in order.
 const READ_OF_A_SET: &str = "
     {:type :invoke, :process 0, :f :read, :value [7 nil]}
     {:type :ok, :process 0, :f :read, :value [7 #{3 -1 2}]}";
 
-// Whether the last event has a set of these members.
+// Returns whether the last event has the set with these members.
 fn ends_with_set(history: &History, values: &[i64]) -> bool {
     match history.events().last() {
         Some(
@@ -246,10 +246,10 @@ fn ends_with_set(history: &History, values: &[i64]) -> bool {
     }
 }
 
-// A question about the history of a text.
+// A question about the history in a text.
 #[derive(Clone, Copy)]
 enum Question {
-    /// The number of events, and the text of the one of this index.
+    /// The number of events, and the text of the event with this index.
     Text(u32, u32, &'static [u8]),
     Kinds(u16, &'static [EventKind]),
     LastSet(&'static [i64]),
@@ -268,7 +268,7 @@ fn is_so(alloc: Global, text: &str, question: Question) -> bool {
     }
 }
 
-// Key 7 has the four events, and key 8 none. A fault is copied and counted.
+// Key 7 has four events, and key 8 none. A fault is copied and counted.
 const QUESTIONS: [(&str, Question); 5] = [
     (
         WRITE_AND_READ,

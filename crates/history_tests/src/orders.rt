@@ -1,4 +1,4 @@
-//! Orders that are one of their history, and orders that are none.
+//! Lists of operations that are orders of their history, and lists that are not.
 use edn::{Refusal, read_all};
 use events::from_edn;
 use history::History;
@@ -10,10 +10,10 @@ use witness::MismatchReason::{
 };
 use witness::{Confirmation, Mismatch, MismatchReason, confirm};
 
-// An order, and what does not fit first: the place, the event there, and why.
+// An order, and its first mismatch: the place, the event there, and the reason.
 type Row = (&'static [u32], Option<(usize, usize, MismatchReason)>);
 
-// A write that is open, and a read of its value.
+// An open write, and a read of its value.
 const OPEN_WRITE: &str = "
     {:type :invoke, :process 0, :f :write, :value [7 1]}
     {:type :invoke, :process 1, :f :read, :value [7 nil]}
@@ -30,7 +30,7 @@ const OF_OPEN_WRITE: [Row; 8] = [
     (&[0, 2], Some((1, 2, NoInvocation))),
 ];
 
-// A write that has returned before a read is invoked, whose answer says nothing.
+// A write that returned before a read was invoked. The read's answer is nil.
 const WRITE_THEN_READ: &str = "
     {:type :invoke, :process 0, :f :write, :value [7 1]}
     {:type :ok, :process 0, :f :write, :value [7 1]}
@@ -57,7 +57,7 @@ const OF_FAILED_AND_CRASHED: [Row; 5] = [
     (&[5, 0], Some((0, 5, AnotherAnswer))),
 ];
 
-// Two keys.
+// A history of two keys.
 const TWO_KEYS: &str = "
     {:type :invoke, :process 0, :f :write, :value [1 5]}
     {:type :invoke, :process 1, :f :write, :value [2 6]}
@@ -102,7 +102,7 @@ const OF_SET: [Row; 3] = [
     (&[0, 1, 2], Some((2, 2, AnotherAnswer))),
 ];
 
-// Two values; the second comes out.
+// Enqueues of two values, and a dequeue of the second one.
 const QUEUE: &str = "
     {:type :invoke, :process 0, :f :enqueue, :value [7 1]}
     {:type :invoke, :process 1, :f :enqueue, :value [7 2]}
@@ -121,7 +121,7 @@ const OF_BAG: [Row; 3] = [
     (&[0, 2, 1], Some((1, 2, AnotherAnswer))),
 ];
 
-// A dequeue that has not answered, while a second value is put in, and then one that answers the first value.
+// A dequeue without an answer, an enqueue of a second value meanwhile, and a dequeue that answers the first value.
 const OPEN_DEQUEUE: &str = "
     {:type :invoke, :process 0, :f :enqueue, :value [7 1]}
     {:type :ok, :process 0, :f :enqueue, :value [7 1]}
@@ -131,7 +131,7 @@ const OPEN_DEQUEUE: &str = "
     {:type :invoke, :process 2, :f :dequeue, :value [7 nil]}
     {:type :ok, :process 2, :f :dequeue, :value [7 1]}";
 
-// It may take the second value, where that is in.
+// The dequeue without an answer may remove the second value, after it was enqueued.
 const OF_OPEN_DEQUEUE: [Row; 4] = [
     (&[0, 3, 2, 5], None),
     (&[0, 3, 5], None),
@@ -141,7 +141,7 @@ const OF_OPEN_DEQUEUE: [Row; 4] = [
 
 const OF_NOTHING: [Row; 2] = [(&[], None), (&[0], Some((0, 0, NoEvent)))];
 
-/// The history of copies of the events of a text.
+/// Returns the history of copies of the events in a text.
 pub(crate) fn history_of(alloc: Global, text: &str) -> Result<History, Refusal> {
     let mut history = History::new(alloc, 3)?;
     for element in &read_all(alloc, text.as_bytes())? {
@@ -150,7 +150,7 @@ pub(crate) fn history_of(alloc: Global, text: &str) -> Result<History, Refusal> 
     Ok(history)
 }
 
-// The expected answer.
+// Returns the expected answer.
 fn said_by(row: Row) -> Confirmation {
     match row.1 {
         None => Confirmation::Linearizable,
@@ -158,7 +158,7 @@ fn said_by(row: Row) -> Confirmation {
     }
 }
 
-// Whether each order is answered so.
+// Returns whether each order has its answer.
 fn are_confirmed(alloc: Global, history: &History, kind: ModelKind, rows: &[Row]) -> bool {
     for row in rows {
         if confirm(alloc, history, kind, row.0) != Ok(said_by(*row)) {
@@ -168,10 +168,10 @@ fn are_confirmed(alloc: Global, history: &History, kind: ModelKind, rows: &[Row]
     true
 }
 
-// The kind of its keys, the text of a history, and orders.
+// The kind of the keys, the text of a history, and orders.
 type Orders = (ModelKind, &'static str, &'static [Row]);
 
-// The same, of the history of the text.
+// Returns whether each order of the history in the text has its answer.
 fn are_answered(alloc: Global, orders: &Orders) -> bool {
     match history_of(alloc, orders.1) {
         Ok(history) => are_confirmed(alloc, &history, orders.0, orders.2),

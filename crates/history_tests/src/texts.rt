@@ -1,23 +1,23 @@
-//! Texts, their elements, and how elements are written.
+//! Texts, their elements, and the canonical texts of elements.
 use edn::{Edn, Elements, Refusal, all_differ, check_text, is_keyword_name, read_all, same};
 use edn_writer::{in_profile, write};
 use std::alloc::Global;
 
-/// What is true of the elements of a text.
+/// A fact about the elements of a text.
 #[derive(Clone, Copy)]
 enum Truth {
-    /// This number of elements.
+    /// The number of elements.
     Count(usize),
     Integers(&'static [i64]),
-    /// A string alone.
+    /// The only element is this string.
     String(&'static str),
-    /// Two elements, and whether they are the same.
+    /// Whether the two elements are the same.
     Same(bool),
-    /// Whether no two are the same.
+    /// Whether no two elements are the same.
     Differ(bool),
-    /// A map alone, with the vector of 1, :b and nil at :a, and nothing at :b.
+    /// The only element is a map, with the vector of 1, :b and nil at :a, and nothing at :b.
     VectorAtA,
-    /// Their canonical text, behind `> `.
+    /// The canonical text of the elements, after `> `.
     Text(&'static [u8]),
 }
 
@@ -33,7 +33,7 @@ fn are_integers(elements: &[Edn], integers: &[i64]) -> bool {
     true
 }
 
-// Whether it is a map with the vector of 1, :b and nil at :a, and nothing at :b.
+// Returns whether the element is a map with the vector of 1, :b and nil at :a, and nothing at :b.
 fn has_vector_at_a(map: &Edn) -> bool {
     let Some(vector) = map.get("a") else {
         return false;
@@ -49,7 +49,7 @@ fn has_vector_at_a(map: &Edn) -> bool {
     }
 }
 
-// Whether the text of the elements, behind two bytes, is this one.
+// Returns whether the text of the elements, after two bytes, is `canonical`.
 fn is_rewritten(alloc: Global, elements: &[Edn], canonical: &[u8]) -> Result<bool, Refusal> {
     let mut written = Vec::from_slice(alloc, b"> ")?;
     for element in elements {
@@ -73,7 +73,7 @@ fn is_true_of(alloc: Global, truth: Truth, elements: &[Edn]) -> bool {
     }
 }
 
-/// A text, and what is true of its elements.
+/// A text, and a fact about its elements.
 type Row = (&'static [u8], Truth);
 
 fn holds(alloc: Global, row: &Row) -> bool {
@@ -83,7 +83,7 @@ fn holds(alloc: Global, row: &Row) -> bool {
     }
 }
 
-// As many collections open at once as may be.
+// A text with the maximum number of open collections.
 const DEEPEST: &[u8] = b"[[[[[[[[[[[[[[[[[[[[[[[[[[[[[[[[]]]]]]]]]]]]]]]]]]]]]]]]]]]]]]]]";
 
 const ROWS: [Row; 17] = [
@@ -96,7 +96,7 @@ const ROWS: [Row; 17] = [
     (b"#_ #_ 1 2", Truth::Count(0)),
     (b"nil true\"\"#{}:a", Truth::Count(5)),
     (DEEPEST, Truth::Count(1)),
-    // A string, two maps that differ in their order or in a value, the parts of a map, and elements that differ or do not.
+    // A string, two maps that differ in their order or in a value, the parts of a map, and elements that are different or not.
     (b"\"\\t\\\"\\\\\xc3\xa9;\"", Truth::String("\t\"\\é;")),
     (
         b"{:a 1, [nil #{1 2}] {:b 2 :c 3}} {[nil #{2 1}] {:c 3 :b 2} :a 1}",
@@ -132,7 +132,7 @@ const ROWS: [Row; 17] = [
     ),
 ];
 
-// Whether the elements are these integers, one by one, and then the end comes, or this refusal.
+// Returns whether the elements are these integers, one by one, followed by the end or by this refusal.
 fn come_one_by_one(alloc: Global, text: &[u8], integers: &[i64], refused: Option<Refusal>) -> bool {
     let mut elements = Elements::new(text);
     for integer in integers {
@@ -163,19 +163,19 @@ const NAMES: [(&[u8], bool); 4] = [
     (b"", false),
 ];
 
-// One less.
+// A text with one open collection less.
 const INNER: &[u8] = b"[[[[[[[[[[[[[[[[[[[[[[[[[[[[[[[]]]]]]]]]]]]]]]]]]]]]]]]]]]]]]]";
 
-/// A value that is made of its parts, and not read.
+/// A value that is built from its parts instead of being read.
 #[derive(Clone, Copy)]
 enum Made {
     Keyword(&'static str),
-    /// The set of the elements of a text, and the vector of these.
+    /// The set of the elements of a text, or the vector of them.
     Set(&'static [u8]),
     Vector(&'static [u8]),
 }
 
-// Whether the value has a text.
+// Returns whether the value has a text.
 fn has_text(alloc: Global, made: Made) -> Result<bool, Refusal> {
     let value = match made {
         Made::Keyword(name) => Edn::Keyword(String::from_str(alloc, name)?),
@@ -185,7 +185,7 @@ fn has_text(alloc: Global, made: Made) -> Result<bool, Refusal> {
     Ok(in_profile(&value))
 }
 
-// A keyword that a digit begins, a set that has 1 twice, as many collections open at once as may be, and one more.
+// A keyword that begins with a digit; a set that contains 1 twice; values with the maximum number of open collections, and with one more.
 const MADE: [(Made, bool); 4] = [
     (Made::Keyword("9"), false),
     (Made::Set(b"1 1"), false),

@@ -1,11 +1,11 @@
--- Invariant: states, the hash of each, and an index of these
+-- Invariant: states, the hash of each, and an index of them
 use Rattle.std.specs.Prelude.{◌≡◌, ℕ, List, map}
 use Rattle.std.specs.Hash.{HashWrites}
 use Rattle.buckets.specs.Hashes.{hash_by}
 use Rattle.buckets.specs.Index.{Indexes, hash_bucket}
 use Rattle.interner.specs.Numbers.{IsOnceIn}
 
--- states, none twice, the hash of each, and an index of these
+-- states, each once; the hash of each; and an index of the states
 pub record AreStates {S : Type 0} (feeds : S → HashWrites) (items : List S) (hashes last before : List ℕ) : Type 0 where
   pub once : IsOnceIn items
   pub hashed : hashes ≡ map (hash_by feeds) items

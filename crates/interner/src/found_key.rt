@@ -1,4 +1,4 @@
-//! An answer as a key for looking it up.
+//! Found values as keys of a map.
 ghost use Rattle.std.specs.Prelude.{◌≡◌, IfOk};
 ghost use Rattle.interner.specs.FoundKeys.{found_of};
 
@@ -6,7 +6,7 @@ use models::Found;
 use std::alloc::AllocError;
 use values::Members;
 
-/// The answer of an operation, with an order. Two are equal if the same was found.
+/// A found value, with an order. Two keys are equal if their found values are the same.
 #[derive(PartialEq, Eq, PartialOrd, Ord, Drop)]
 pub enum FoundKey {
     Unit,
@@ -16,7 +16,7 @@ pub enum FoundKey {
 }
 
 impl FoundKey {
-    /// The key of the answer.
+    /// Returns the key of the found value.
     pub fn of(found: Found) -> FoundKey
         ensures { found_of result ≡ found }
     {
@@ -28,8 +28,8 @@ impl FoundKey {
         }
     }
 
-    /// The answer, which shares the members of a set. Takes constant time, and no memory; `AllocError` if as many share them as can be
-    /// counted.
+    /// Returns the found value, which shares the members of a set. Takes constant time, and does not allocate. `AllocError` if the number
+    /// of values that share the members cannot grow any more.
     pub fn found(&self) -> Result<Found, AllocError>
         ensures { IfOk result (λ found. found ≡ found_of self.now) }
     {

@@ -1,4 +1,4 @@
-//! Answers, by number.
+//! A table of found values, by number.
 ghost use Rattle.std.specs.Prelude.{◌≡◌, ◌≢◌, ◌↔◌, ◌<◌, ◌++◌, ◌∷◌, [], ℕ, List, Some, None};
 ghost use Rattle.std.specs.Prelude.{length, IsTrue, slice_get, option_copied, IfOk, OnOk, OnErr, IfSome};
 ghost use Rattle.events.specs.Events.{IsPrefixOf};
@@ -12,11 +12,11 @@ use std::alloc::{AllocError, Global};
 use std::collections::BTreeMap;
 use std::marker::Model;
 
-// This number are compared in turn, which is fastest if there are no more; the others are looked up.
+// The number of found values that are compared one by one, which is faster if there are no more. The others are looked up.
 const FIRST: usize = 32;
 
-/// Different things that were found, each with a number, which is one more than its place. The first thirty-two are compared in
-/// turn, and the others are found by the order of their keys.
+/// Different found values. The number of a value is its index plus one. The first 32 values are compared one by one, and the others are
+/// looked up by their keys.
 pub struct FoundTable {
     items: Vec<Found>,
     slots: BTreeMap<FoundKey, usize>,
@@ -34,7 +34,7 @@ impl Model for FoundTable {
     ghost invariant = { λ a. AreSlots a.slots a.items.items };
 }
 
-// So that crates above give one back by one call.
+// With this implementation, a crate above drops a table by one call.
 impl Drop for FoundTable {
     fn drop(self) {
         let FoundTable {
@@ -45,7 +45,7 @@ impl Drop for FoundTable {
 }
 
 impl FoundTable {
-    /// Nothing.
+    /// Returns an empty table.
     pub fn new(alloc: Global) -> FoundTable
         ensures { result ≡ [] }
     {
@@ -55,14 +55,14 @@ impl FoundTable {
         }
     }
 
-    /// How many there are. Takes constant time.
+    /// Returns the number of found values. Takes constant time.
     pub fn len(&self) -> usize
         ensures { result ≡ length self.now }
     {
         self.items.len()
     }
 
-    /// Takes all away, and keeps the memory of their list. Costs O(answers).
+    /// Removes all found values, and keeps the memory of their list. Costs O(found values).
     pub fn clear(&mut self)
         ensures { self.new ≡ [] }
     {
@@ -70,7 +70,7 @@ impl FoundTable {
         self.slots.clear();
     }
 
-    /// The answer at this place, if there is one. Takes constant time.
+    /// Returns the found value at index `at`, if there is one. Takes constant time.
     pub fn get(&self, at: usize) -> Option<&Found>
         ensures { option_copied result ≡ slice_get self.now at }
     {
@@ -78,7 +78,7 @@ impl FoundTable {
     }
 }
 
-// The place of `Unit` among the first answers. It is mostly near the beginning.
+// Returns the index of `Unit` among the first found values. It is mostly near the beginning.
 fn place_of_unit(items: &[Found]) -> Option<usize>
     ensures there { IfSome result (λ at. slice_get items.now at ≡ Some Found.Unit) }
     ensures none { result ≡ None → (at : ℕ) → at < 32 → slice_get items.now at ≢ Some Found.Unit }
@@ -92,8 +92,8 @@ fn place_of_unit(items: &[Found]) -> Option<usize>
     None
 }
 
-// The place of this queue answer among the first. It is compared with those that came last, and then with those before, since the last are
-// found again most often.
+// Returns the index of this queue item among the first found values. Compares with the last values first, since they are found again most
+// often.
 fn place_of_item(items: &[Found], value: i64) -> Option<usize>
     ensures there { IfSome result (λ at. slice_get items.now at ≡ Some (Found.Item value)) }
     ensures none { result ≡ None → (at : ℕ) → at < 32
@@ -109,7 +109,7 @@ fn place_of_item(items: &[Found], value: i64) -> Option<usize>
     None
 }
 
-// Whether it is this queue answer.
+// Returns whether the found value is the queue item `value`.
 fn is_item(found: &Found, value: i64) -> bool
     ensures { IsTrue result ↔ (found.now ≡ Found.Item value) }
 {
@@ -119,7 +119,8 @@ fn is_item(found: &Found, value: i64) -> bool
     }
 }
 
-// The same, of anything. It is compared with the very first too before it is with the last.
+// Returns the index of `found` among the first found values. Compares with the very first one, and then with the others from the last one
+// on.
 fn place_of_any(items: &[Found], found: &Found) -> Option<usize>
     ensures there { IfSome result (λ at. slice_get items.now at ≡ Some found.now) }
     ensures none { result ≡ None → (at : ℕ) → at < 32 → slice_get items.now at ≢ Some found.now }
@@ -137,7 +138,7 @@ fn place_of_any(items: &[Found], found: &Found) -> Option<usize>
     None
 }
 
-// The place of an answer among the first ones. `Unit`, the answer of most calls of a queue, has a shorter loop of its own.
+// Returns the index of `found` among the first found values. `Unit`, which most calls of a queue find, has a shorter loop of its own.
 #[inline(always)]
 fn place_in_first(items: &[Found], found: &Found) -> Option<usize>
     ensures there { IfSome result (λ at. slice_get items.now at ≡ Some found.now) }
@@ -150,7 +151,7 @@ fn place_in_first(items: &[Found], found: &Found) -> Option<usize>
     }
 }
 
-// Puts what this is the key of behind the others.
+// Appends the found value with this key.
 fn put_key(founds: &mut FoundTable, key: FoundKey) -> Result<(), AllocError>
     ensures put { OnOk result (founds.new ≡ founds.old ++ found_of key ∷ []) }
     ensures kept { OnErr result (founds.new ≡ founds.old) }
@@ -165,7 +166,7 @@ fn put_key(founds: &mut FoundTable, key: FoundKey) -> Result<(), AllocError>
     }
 }
 
-// Puts what was found behind the others.
+// Appends a found value.
 fn put(founds: &mut FoundTable, found: Found) -> Result<(), AllocError>
     ensures put { OnOk result (founds.new ≡ founds.old ++ found ∷ []) }
     ensures kept { OnErr result (founds.new ≡ founds.old) }
@@ -177,9 +178,9 @@ fn put(founds: &mut FoundTable, found: Found) -> Result<(), AllocError>
     put_key(founds, FoundKey::of(found))
 }
 
-/// The number of the answer, which is its place plus one. A new answer is appended. `AllocError` if there is no memory, or if as many
-/// answers share the members of a set as can be counted: then nothing is appended. Compares the answer with the first thirty-two, and else
-/// looks it up in O(log n).
+/// Returns the number of `found`, which is its index plus one. Appends it if it is new. `AllocError` if an allocation fails, or if the
+/// number of values that share a set's members cannot grow any more. Nothing is appended then. Compares `found` with the first 32 values,
+/// and otherwise looks it up in O(log n).
 #[inline(always)]
 pub fn slot_at(founds: &mut FoundTable, found: Found) -> Result<usize, AllocError>
     ensures slot { IfOk result (λ slot. IsSlot founds.new slot (Some found)) }
@@ -192,7 +193,7 @@ pub fn slot_at(founds: &mut FoundTable, found: Found) -> Result<usize, AllocErro
     slot_behind(founds, found)
 }
 
-// The same for an answer that is not among the first.
+// Returns the number of a found value that is not among the first 32, and appends it if it is new.
 #[inline(never)]
 fn slot_behind(founds: &mut FoundTable, found: Found) -> Result<usize, AllocError>
     requires { (at : ℕ) → at < 32 → slice_get founds.old at ≢ Some found }
@@ -212,7 +213,7 @@ fn slot_behind(founds: &mut FoundTable, found: Found) -> Result<usize, AllocErro
     Ok(founds.items.len())
 }
 
-/// The same things, with the same numbers, which share the members of sets. The time grows with n log n.
+/// Returns the same values with the same numbers. Members of sets are shared. Costs O(n log n).
 pub fn copied(alloc: Global, founds: &FoundTable) -> Result<FoundTable, AllocError>
     ensures { IfOk result (λ copy. copy ≡ founds.now) }
 {

@@ -1,13 +1,13 @@
-//! States that an index of their hashes finds.
+//! States with an index of their hashes.
 ghost use Rattle.std.specs.Prelude.{◌≡◌, ◌≢◌, ◌<◌, ℕ, map, length, Some, None, slice_get, IfSome, IsFalse, IsTrue};
 ghost use Rattle.buckets.specs.Hashes.{hash_by};
 ghost use Rattle.buckets.specs.Index.{Indexes, hash_bucket};
 
 use buckets::{Index, find};
-use models::SeqObject;
+use objects::Specification;
 
-// Whether the state at place `at` is this one. Its hash is given, and compared first.
-fn stands_at<M: SeqObject>(
+// Returns whether the state at index `at` is `state`. `hash` is the hash of `state`, and is compared first.
+fn stands_at<M: Specification>(
     items: &[M::State],
     hashes: &[u64],
     at: usize,
@@ -27,9 +27,9 @@ fn stands_at<M: SeqObject>(
     M::same(&items[at], state)
 }
 
-/// The place of the state, if it is there. Its hash and the bucket of the hash are given, and all hashes are indexed. Compares the hashes
-/// of one bucket, and the states of the same hash.
-pub fn place_of<M: SeqObject>(
+/// Returns the place of `state`, if the list contains it. `hash` is its hash, and `bucket` is the bucket of the hash. All hashes are
+/// indexed. Compares the hashes of one bucket, and the states of the same hash.
+pub fn place_of<M: Specification>(
     items: &[M::State],
     hashes: &[u64],
     index: &Index,

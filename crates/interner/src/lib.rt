@@ -1,8 +1,7 @@
-//! Tables of values with small numbers. Each different state and each different answer is stored once and has a number, so that ends are
-//! rows of numbers.
+//! Tables of values with small numbers. Each state and each found value is stored once and has a number, so ends can be rows of numbers.
 //!
-//! A state is found by an index of the states' hashes, and compared if the hash is the same. The first thirty-two answers are compared
-//! in turn, and more are looked up by an order.
+//! A state is found by an index of hashes, and compared if the hash is the same. The first 32 found values are compared one by one, and
+//! further ones are looked up in a map.
 //!
 //! A call allocates only if its result can be `AllocError`, or a refusal because memory ran out.
 #![tactic(auto)]

@@ -1,4 +1,4 @@
-//! States by number.
+//! A table of states, by number.
 ghost use Rattle.std.specs.Prelude.{◌≡◌, ◌<◌, [], length, Some, slice_get, option_copied, vec_capacity, IfOk, OnOk};
 ghost use Rattle.buckets.specs.Hashes.{hash_by};
 ghost use Rattle.events.specs.Events.{IsPrefixOf};
@@ -7,15 +7,15 @@ ghost use Rattle.interner.specs.Numbers.{IsOnceIn};
 
 use crate::index::place_of;
 use buckets::{Bucketed, Index, hash_of, index_hashes, put_behind};
-use models::SeqObject;
+use objects::Specification;
 use std::alloc::{AllocError, Global};
 use std::hash::Hash;
 use std::marker::Model;
 
-// So many states are few: their list grows to four times its length.
+// Below this length a list that is full grows to four times its length.
 const FEW: usize = 512;
 
-/// Different states, each with a number, which is its place. An index of their hashes finds them.
+/// Different states. The number of a state is its index. An index of hashes finds a state.
 pub struct States<S: Hash + Drop> {
     items: Vec<S>,
     hashes: Vec<u64>,
@@ -34,7 +34,7 @@ impl<S: Hash + Drop> Model for States<S> {
         a.hashes.items a.index.last.items a.index.before.items };
 }
 
-// So that crates above give one back by one call.
+// With this implementation, a crate above drops a table by one call.
 impl<S: Hash + Drop> Drop for States<S> {
     fn drop(self) {
         let States {
@@ -46,7 +46,7 @@ impl<S: Hash + Drop> Drop for States<S> {
 }
 
 impl<S: Hash + Drop> States<S> {
-    /// No states.
+    /// Returns an empty table.
     pub fn new(alloc: Global) -> States<S>
         ensures { result ≡ [] }
     {
@@ -57,7 +57,7 @@ impl<S: Hash + Drop> States<S> {
         }
     }
 
-    /// Takes all states away, and keeps the memory of their list and of its index. Costs O(states).
+    /// Removes all states, and keeps the memory of their list and of its index. Costs O(states).
     pub fn clear(&mut self)
         ensures { self.new ≡ [] }
     {
@@ -66,7 +66,7 @@ impl<S: Hash + Drop> States<S> {
         self.index.clear();
     }
 
-    /// How many there are. Takes constant time.
+    /// Returns the number of states. Takes constant time.
     pub fn len(&self) -> usize
         ensures is { result ≡ length self.now }
         ensures once { IsOnceIn self.now }
@@ -74,7 +74,7 @@ impl<S: Hash + Drop> States<S> {
         self.items.len()
     }
 
-    /// The state with this number, if there is one. Takes constant time.
+    /// Returns the state with this number, if there is one. Takes constant time.
     pub fn get(&self, at: usize) -> Option<&S>
         ensures { option_copied result ≡ slice_get self.now at }
     {
@@ -82,7 +82,7 @@ impl<S: Hash + Drop> States<S> {
     }
 }
 
-// Makes room for one more if there is none. A short list gets room for four times as many, so that it is seldom moved.
+// Makes room for one more element, if there is none. A short list gets room for four times its length, so that it is rarely moved.
 #[inline(always)]
 fn make_room<T>(list: &mut Vec<T>) -> Result<(), AllocError>
     ensures items { list.new.items ≡ list.old.items }
@@ -95,7 +95,7 @@ fn make_room<T>(list: &mut Vec<T>) -> Result<(), AllocError>
     Ok(())
 }
 
-// Makes room for one more state with its hash, and its place in the index.
+// Makes room for one more state, its hash, and its place in the index.
 #[inline(always)]
 fn make_rooms<S>(
     items: &mut Vec<S>,
@@ -116,9 +116,9 @@ fn make_rooms<S>(
     make_room(&mut index.before)
 }
 
-// The number of the state, which has this hash. All hashes are indexed.
+// Returns the number of `state`, and appends it if it is new. `hash` is its hash. All hashes are indexed.
 #[inline(always)]
-fn numbered<M: SeqObject>(
+fn numbered<M: Specification>(
     items: &mut Vec<M::State>,
     hashes: &mut Vec<u64>,
     index: &mut Index,
@@ -146,11 +146,11 @@ fn numbered<M: SeqObject>(
     Ok(at)
 }
 
-/// The number of the state. A new state is appended. `AllocError` if there is no memory, or if there are too many states for places of 32
-/// bits: then the states are as they were. Costs a hash of the state, and a comparison with the states of the same hash. If there are as
-/// many states as buckets, all are indexed again.
+/// Returns the number of `state`. Appends it if it is new. `AllocError` if an allocation fails, or if there are too many states for places
+/// of 32 bits; the states are then as they were. Costs a hash of the state, and comparisons with the states of the same hash. If there are
+/// as many states as buckets, all states are indexed again.
 #[inline(always)]
-pub fn number_of<M: SeqObject>(
+pub fn number_of<M: Specification>(
     states: &mut States<M::State>,
     state: M::State,
 ) -> Result<usize, AllocError>
@@ -173,8 +173,8 @@ pub fn number_of<M: SeqObject>(
     )
 }
 
-// A copy of each state.
-fn copies<M: SeqObject>(alloc: Global, items: &[M::State]) -> Result<Vec<M::State>, AllocError>
+// Returns a copy of each state.
+fn copies<M: Specification>(alloc: Global, items: &[M::State]) -> Result<Vec<M::State>, AllocError>
     ensures { IfOk result (λ copies. copies.items ≡ items.now) }
 {
     let mut copies = Vec::with_capacity(alloc, items.len())?;
@@ -184,8 +184,8 @@ fn copies<M: SeqObject>(alloc: Global, items: &[M::State]) -> Result<Vec<M::Stat
     Ok(copies)
 }
 
-/// The same states, with the same numbers. Costs a copy of each state. They are indexed when one is looked up.
-pub fn copied<M: SeqObject>(
+/// Returns the same states with the same numbers. The next call of [`number_of`] indexes them. Costs a copy of each state.
+pub fn copied<M: Specification>(
     alloc: Global,
     states: &States<M::State>,
 ) -> Result<States<M::State>, AllocError>

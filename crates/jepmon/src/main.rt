@@ -1,7 +1,7 @@
-//! `jepmon script` reads events of a store's clients, a line each, and answers each by the verdict on all of them:
-//! whether what the clients saw is linearizable (Herlihy and Wing, TOPLAS 1990). `jepmon check FILE` judges a recorded
-//! history, `jepmon confirm FILE ORDER` says what an order of its operations shows, and `jepmon run` judges what clients see of a
-//! store in the process, under faults.
+//! `jepmon script` reads events of a store's clients, one in each line. It answers each event by the verdict on all events so far: whether
+//! the clients' observations are linearizable (Herlihy and Wing, TOPLAS 1990). `jepmon check FILE` judges a recorded history, and `jepmon
+//! confirm FILE ORDER` tests an order of its operations. `jepmon run` judges the observations of clients of a store inside the process,
+//! under faults.
 #![tactic(auto)]
 
 mod orders;

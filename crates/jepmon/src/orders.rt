@@ -1,7 +1,9 @@
-//! Orders, carried out: the input and the output of each, and its exit status.
+//! Execution of the orders on the command line: the input and the output of each, and its exit status.
 ghost use Rattle.std.specs.Prelude.{◌≡◌, ◌≤◌, None, false, IfOk};
 ghost use Rattle.std.specs.Process.{exit_status};
 ghost use Rattle.harness.specs.Setups.{setup_of};
+ghost use Rattle.events.specs.OwnNames.{own_by};
+ghost use Rattle.object_kinds.specs.Objects.{names_of};
 ghost use Rattle.command_line.specs.Orders.{IsWithinLimits};
 ghost use Rattle.jepmon.specs.Ends.{EndsAs, EndsByWords, IsARun, IsCarriedOut, IsCheck, IsConfirmation, IsScript};
 
@@ -12,6 +14,7 @@ use confirm_command::{confirm_file, confirm_input};
 use harness::Config;
 use kinds::ModelKind;
 use line_loop::{Failed, Flushes, ReadsWithWriter};
+use object_kinds::Objects;
 use observers::OnStandardError;
 use run_command::run_store;
 use script_command::run_script;
@@ -26,17 +29,18 @@ use std::thread::Threads;
 /// The name of standard input in the message about a failed read.
 pub const INPUT: &str = "standard input";
 
-// Says how to go on, if somebody at a terminal has to type what the program reads.
+// Prints how to go on, if the program reads what somebody types at a terminal.
 fn greet<R: Eprint>(rt: &R, is_terminal: bool) {
     if is_terminal {
         let _ = rt.eprintln(TYPED);
     }
 }
 
-/// Answers the lines of the reader. Says how to go on, if somebody at a terminal has to type them.
+/// Answers the lines of the reader. Prints how to go on, if somebody types them at a terminal.
 pub fn script<'a, X: Wait + Clock + Eprint, R: ReadsWithWriter<W>, W: Write + Failed + Flushes>(
     rt: &X,
     alloc: Global,
+    objects: Objects,
     config: Config,
     is_strict: bool,
     reader: &mut R,
@@ -46,7 +50,7 @@ pub fn script<'a, X: Wait + Clock + Eprint, R: ReadsWithWriter<W>, W: Write + Fa
 ) -> u8
     requires reads { R.has_failed reader.old ≡ false }
     requires writes { W.has_failed writer.old ≡ false }
-    ensures { IsScript (setup_of config) is_strict
+    ensures { IsScript objects (setup_of config) is_strict
         (record {
           had = R.remaining reader.old;
           left = R.remaining reader.new;
@@ -62,13 +66,14 @@ pub fn script<'a, X: Wait + Clock + Eprint, R: ReadsWithWriter<W>, W: Write + Fa
         })
         result }
 {
+    aside.take_objects(objects);
     greet(rt, is_typed);
-    let outcome = run_script(rt, alloc, config, is_strict, reader, writer, aside);
+    let outcome = run_script(rt, alloc, objects, config, is_strict, reader, writer, aside);
     aside.end();
     status_after(rt, alloc, outcome, aside)
 }
 
-/// Judges the history of a file; of the reader, if the path is `-`.
+/// Judges the history in a file, or in the reader if the path is `-`.
 pub fn check<
     'a,
     X: Wait + Threads + Opens + Sync + Clock + Eprint,
@@ -79,6 +84,7 @@ pub fn check<
     alloc: Global,
     path: &str,
     workers: u32,
+    objects: Objects,
     config: Config,
     reader: &mut R,
     writer: &mut W,
@@ -87,7 +93,7 @@ pub fn check<
     requires reads { R.has_failed reader.old ≡ false }
     requires writes { W.has_failed writer.old ≡ false }
     requires workers { (1 ≤ workers) × (workers ≤ 64) }
-    ensures { IsCheck (X.holds rt.now) path.now (setup_of config)
+    ensures { IsCheck (X.holds rt.now) path.now (own_by (names_of objects)) (setup_of config)
         (record {
           had = R.remaining reader.old;
           left = R.remaining reader.new;
@@ -103,22 +109,24 @@ pub fn check<
         })
         result }
 {
+    aside.take_objects(objects);
     let status = if path == "-" {
-        check_text(rt, alloc, config, workers, reader, writer, aside)
+        check_text(rt, alloc, objects, config, workers, reader, writer, aside)
     } else {
-        check_file(rt, alloc, path, config, workers, writer, aside)
+        check_file(rt, alloc, path, objects, config, workers, writer, aside)
     };
     aside.end();
     say_unwritten(rt, alloc, writer, aside);
     status
 }
 
-/// Says what an order of operations shows of the history in a file, or in the reader if the path is `-`.
+/// Tests an order of the operations of the history in a file, or in the reader if the path is `-`.
 pub fn confirm<'a, X: Wait + Opens + Clock + Eprint, R: Read + Failed, W: Write + Failed + Flushes>(
     rt: &X,
     alloc: Global,
     path: &str,
     order_path: &str,
+    objects: Objects,
     concurrency: u32,
     kind: ModelKind,
     reader: &mut R,
@@ -127,7 +135,7 @@ pub fn confirm<'a, X: Wait + Opens + Clock + Eprint, R: Read + Failed, W: Write 
 ) -> u8
     requires reads { R.has_failed reader.old ≡ false }
     requires writes { W.has_failed writer.old ≡ false }
-    ensures { IsConfirmation (X.holds rt.now) path.now order_path.now concurrency kind
+    ensures { IsConfirmation (X.holds rt.now) path.now order_path.now (own_by (names_of objects)) concurrency kind
         (record {
           had = R.remaining reader.old;
           left = R.remaining reader.new;
@@ -143,12 +151,14 @@ pub fn confirm<'a, X: Wait + Opens + Clock + Eprint, R: Read + Failed, W: Write 
         })
         result }
 {
+    aside.take_objects(objects);
     let status = if path == "-" {
         confirm_input(
             rt,
             alloc,
             reader,
             order_path,
+            objects,
             concurrency,
             kind,
             writer,
@@ -160,6 +170,7 @@ pub fn confirm<'a, X: Wait + Opens + Clock + Eprint, R: Read + Failed, W: Write 
             alloc,
             path,
             order_path,
+            objects,
             concurrency,
             kind,
             writer,
@@ -171,7 +182,7 @@ pub fn confirm<'a, X: Wait + Opens + Clock + Eprint, R: Read + Failed, W: Write 
     status
 }
 
-/// Runs clients against a store in the process.
+/// Runs clients against a store inside the process.
 pub fn run<'a, X: Wait + Threads + Sync + Clock + Eprint, W: Write + Failed + Flushes>(
     rt: &X,
     alloc: Global,
@@ -196,12 +207,10 @@ pub fn run<'a, X: Wait + Threads + Sync + Clock + Eprint, W: Write + Failed + Fl
     status
 }
 
-/// Carries out the order in the words that the process got, or its alternative, and gives the exit status. The words are the result of
-/// `std::env::args`, this reader is standard input, and this writer is standard output. Whether somebody has to type the input, its handle
-/// says.
+/// Carries out the order in the words of the process, or reports why there is none, and returns the exit status. `words` is the result of
+/// `std::env::args`, `reader` is standard input, and `writer` is standard output. The handle `input` says whether somebody types the input.
 pub fn ended<
     'a,
-    'b,
     X: Wait + Threads + Opens + Sync + Clock + Eprint,
     T: IsTerminal,
     R: ReadsWithWriter<W>,
@@ -211,7 +220,7 @@ pub fn ended<
     alloc: Global,
     words: io::Result<Args>,
     input: &T,
-    reader: &mut SeenFile<'b, R, OnStandardError<'a, X>>,
+    reader: &mut SeenFile<'a, R, OnStandardError<'a, X>>,
     writer: &mut W,
     aside: &OnStandardError<'a, X>,
 ) -> ExitCode
@@ -233,15 +242,14 @@ pub fn ended<
         })
         (exit_status result) }
 {
-    let given = order_given(alloc, words);
+    let given = order_given(rt, alloc, words, aside);
     let status = status_given(rt, alloc, given, input, reader, writer, aside);
     ExitCode::from(status)
 }
 
-// Carries out the order, or its alternative, and gives the status.
+// Carries out the order, or reports why there is none, and returns the exit status.
 fn status_given<
     'a,
-    'b,
     X: Wait + Threads + Opens + Sync + Clock + Eprint,
     T: IsTerminal,
     R: ReadsWithWriter<W>,
@@ -251,7 +259,7 @@ fn status_given<
     alloc: Global,
     given: Result<Order, Stop>,
     input: &T,
-    reader: &mut SeenFile<'b, R, OnStandardError<'a, X>>,
+    reader: &mut SeenFile<'a, R, OnStandardError<'a, X>>,
     writer: &mut W,
     aside: &OnStandardError<'a, X>,
 ) -> u8
@@ -280,10 +288,9 @@ fn status_given<
     }
 }
 
-// Carries out an order, with this reader as standard input and this writer as standard output.
+// Carries out an order, with `reader` as standard input and `writer` as standard output. Returns the exit status.
 fn carried_out<
     'a,
-    'b,
     X: Wait + Threads + Opens + Sync + Clock + Eprint,
     T: IsTerminal,
     R: ReadsWithWriter<W>,
@@ -293,7 +300,7 @@ fn carried_out<
     alloc: Global,
     order: Order,
     input: &T,
-    reader: &mut SeenFile<'b, R, OnStandardError<'a, X>>,
+    reader: &mut SeenFile<'a, R, OnStandardError<'a, X>>,
     writer: &mut W,
     aside: &OnStandardError<'a, X>,
 ) -> u8
@@ -317,9 +324,14 @@ fn carried_out<
         result }
 {
     match order {
-        Order::Script { config, is_strict } => script(
+        Order::Script {
+            objects,
+            config,
+            is_strict,
+        } => script(
             rt,
             alloc,
+            objects,
             config,
             is_strict,
             &mut reader.file,
@@ -330,14 +342,18 @@ fn carried_out<
         Order::Check {
             path,
             workers,
+            objects,
             config,
         } => {
             let judged = path.as_str();
-            check(rt, alloc, judged, workers, config, reader, writer, aside)
+            check(
+                rt, alloc, judged, workers, objects, config, reader, writer, aside,
+            )
         }
         Order::Confirm {
             path,
             order_path,
+            objects,
             concurrency,
             kind,
         } => {
@@ -348,6 +364,7 @@ fn carried_out<
                 alloc,
                 history,
                 list,
+                objects,
                 concurrency,
                 kind,
                 reader,

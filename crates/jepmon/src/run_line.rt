@@ -1,4 +1,4 @@
-//! The line that says how far a run of clients has come.
+//! The line that shows the progress of a run of clients.
 
 use clients::Watch;
 use linspec::Verdict;
@@ -6,14 +6,14 @@ use observers::MovingLine;
 use std::io::Eprint;
 use std::rt::Clock;
 
-/// A line on standard error that follows a run.
+/// A line on standard error that shows the progress of a run.
 #[derive(Drop)]
 pub struct RunLine<'a, X> {
     line: MovingLine<'a, X>,
 }
 
 impl<'a, X: Clock + Eprint> RunLine<'a, X> {
-    /// One that is shown in this line.
+    /// Returns the progress of a run, shown in this line.
     pub fn new(line: MovingLine<'a, X>) -> Self {
         RunLine { line }
     }

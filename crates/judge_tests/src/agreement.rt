@@ -1,5 +1,5 @@
-//! Two ways to find whether a history is linearizable agree: to try each order of its operations, and to judge its events as they
-//! come. A wide kind and its plain one also agree on each event.
+//! A comparison of two tests whether a history is linearizable. One test tries each order of the operations, and the second test judges the
+//! events as they come. A wide kind and its plain kind are also compared at each event.
 ghost use Rattle.std.specs.Prelude.{◌<◌};
 
 use crate::judge::Judge;
@@ -15,25 +15,25 @@ use values::Members;
 
 const KEY: Key = 7;
 
-/// The most operations of a history, few enough for their orders to be tried.
+/// The maximum number of operations of a history, which is small enough to try all their orders.
 const MOST_OPERATIONS: u32 = 8;
 
-/// How many of them are open at once, in a history of operations that are all open.
+/// The number of operations that are open at once, in a history whose operations are all open.
 const OPEN: u32 = 8;
 
 const SEATS: usize = 8;
 
-/// More ends than histories of so few operations have.
+/// A budget that histories of so few operations never exceed.
 const BUDGET: u32 = 1_000_000;
 
-/// Numbers in no clear order, the same in each run: the linear congruential generator of Knuth's MMIX.
+/// Pseudo-random numbers, the same in each run: the linear congruential generator of Knuth's MMIX.
 #[derive(Drop)]
 struct Numbers {
     state: u64,
 }
 
 impl Numbers {
-    /// A number below the limit.
+    /// Returns a number below `limit`.
     fn below(&mut self, limit: u32) -> u32
         requires { 0 < limit }
         ensures { result < limit }
@@ -46,7 +46,7 @@ impl Numbers {
         ((next >> 33) % u64::from(limit)) as u32
     }
 
-    /// One of three values, so that operations often meet.
+    /// Returns one of three values. Since there are so few, operations often have the same value.
     fn value(&mut self) -> i64 {
         i64::from(self.below(3)) + 1
     }
@@ -61,7 +61,7 @@ struct Request {
 }
 
 impl Request {
-    /// One of the operations of this kind of object.
+    /// Returns a random operation of this kind of object; a read for an object by rules.
     fn any(numbers: &mut Numbers, kind: ModelKind) -> Request {
         let first = numbers.below(2) == 0;
         let name = match kind {
@@ -80,7 +80,7 @@ impl Request {
             | ModelKind::WideFifoQueue
             | ModelKind::WideUnorderedQueue => { if first { Name::Enqueue } else { Name::Dequeue } }
             ModelKind::Set | ModelKind::WideSet if first => Name::Add,
-            ModelKind::Set | ModelKind::WideSet => Name::Read,
+            ModelKind::Set | ModelKind::WideSet | ModelKind::Own(_) => Name::Read,
         };
         Request {
             name,
@@ -89,16 +89,17 @@ impl Request {
         }
     }
 
-    /// The part of its invocation.
+    /// Returns the part of the invocation.
     fn part(self) -> Part {
         match self.name {
-            Name::Read | Name::Acquire | Name::Release | Name::Dequeue => Part::Nil,
+            Name::Read | Name::Acquire | Name::Release | Name::Dequeue | Name::Own(_) => Part::Nil,
             Name::Write | Name::Enqueue | Name::Add => Part::Int(self.value),
             Name::Cas => Part::Pair(self.value, self.other),
         }
     }
 
-    /// A part that its ok may have: for a read or a dequeue any value of the right form, and otherwise its own.
+    /// Returns a part that the ok may have. For a read or a dequeue it is any value of the right form, and otherwise the operation's own
+    /// part.
     fn answer(
         self,
         alloc: Global,
@@ -121,7 +122,7 @@ impl Request {
         }
     }
 
-    /// How it ends.
+    /// Returns the kind of the event that ends the operation.
     fn end(self, numbers: &mut Numbers, form: Form) -> EventKind {
         if form == Form::Crashing && self.name == Name::Read && numbers.below(2) == 0 {
             return EventKind::Info;
@@ -134,45 +135,45 @@ impl Request {
     }
 }
 
-/// An operation that is open.
+/// An open operation.
 #[derive(Clone, Copy)]
 struct Call {
     id: u32,
     request: Request,
 }
 
-/// What a thread does.
+/// The state of a thread: its process, and its open operation, if it has one.
 #[derive(Clone, Copy)]
 struct Thread {
     process: u32,
     call: Option<Call>,
 }
 
-/// What histories are like.
+/// The form of histories.
 #[derive(Clone, Copy, PartialEq, Eq)]
 enum Form {
-    /// Three threads go on in turn.
+    /// Three threads act one after another.
     Mixed,
-    /// The same, but that half of the reads that end crash.
+    /// Three threads act one after another, and half of the reads that end crash.
     Crashing,
-    /// Eight operations are open at once, and then end in turn.
+    /// Eight operations are open at once, and then end one after another.
     AllOpen,
 }
 
-/// The results of a history so far.
+/// The results about a history so far.
 #[derive(Clone, Copy, Default)]
 struct Seen {
     dead: bool,
     failed: bool,
     crashed: bool,
     crashed_read: bool,
-    /// There were more ends than the budget.
+    /// Whether the ends outnumbered the budget.
     over: bool,
-    /// A wide kind answered otherwise than its plain kind.
+    /// Whether a wide kind gave another answer than its plain kind.
     differs: bool,
 }
 
-/// The plain kind of the same objects, of a wide kind.
+/// Returns the plain kind with the same objects, for a wide kind.
 fn plain_kind(kind: ModelKind) -> Option<ModelKind> {
     match kind {
         ModelKind::WideRegister => Some(ModelKind::Register),
@@ -184,7 +185,7 @@ fn plain_kind(kind: ModelKind) -> Option<ModelKind> {
     }
 }
 
-/// A history as it grows, with its judge; and of a wide kind with the one of the plain kind, too.
+/// A growing history with its judge. A wide kind also has the judge of its plain kind.
 #[derive(Drop)]
 struct Run {
     alloc: Global,
@@ -220,7 +221,7 @@ impl Run {
         })
     }
 
-    /// The judges and the history get the same event of the operation with this id.
+    /// Appends an event of operation `id` to the history, and gives it to the judges.
     fn append(&mut self, id: u32, kind: EventKind, process: u32, op: Op) -> Result<Step, Refusal> {
         let step = self.own.observe(id, kind, &op)?;
         if let Some(plain) = &mut self.plain {
@@ -236,7 +237,7 @@ impl Run {
         Ok(step)
     }
 
-    /// The next step of the thread.
+    /// Makes the next step of the thread, and returns the thread after it.
     fn go_on(&mut self, numbers: &mut Numbers, thread: Thread) -> Result<Thread, Refusal> {
         match thread.call {
             Some(call) => self.end(numbers, thread.process, call),
@@ -244,7 +245,7 @@ impl Run {
         }
     }
 
-    /// The process invokes an operation, unless there are enough.
+    /// Invokes an operation of the process, unless there are enough operations.
     fn invoke(&mut self, numbers: &mut Numbers, process: u32) -> Result<Thread, Refusal> {
         if self.invoked >= MOST_OPERATIONS {
             return Ok(Thread {
@@ -267,7 +268,7 @@ impl Run {
         })
     }
 
-    /// The open operation of the process returns, fails or crashes, and then the next process of the thread takes its place.
+    /// Ends the open operation of the process: it returns, fails or crashes. After a crash, the next process of the thread takes over.
     fn end(&mut self, numbers: &mut Numbers, process: u32, call: Call) -> Result<Thread, Refusal> {
         let request = call.request;
         let kind = request.end(numbers, self.form);
@@ -292,8 +293,8 @@ impl Run {
         })
     }
 
-    /// Notes that an operation of this name has ended so, and that its judge has answered this. A crash is answered Alive, even of a judge
-    /// whose history is not linearizable.
+    /// Notes that an operation with this name has ended with this kind of event, and that its judge has given this answer. A crash is
+    /// always answered Alive, even if the history is not linearizable.
     fn note(&mut self, name: Name, kind: EventKind, step: Step) {
         let seen = self.seen;
         let crashes = kind == EventKind::Info;
@@ -307,7 +308,7 @@ impl Run {
         };
     }
 
-    /// Three threads go on in turn. Whether an operation is open at the end.
+    /// Makes the steps of three threads, one after another. Returns whether an operation is open at the end.
     fn mix(&mut self, numbers: &mut Numbers) -> Result<bool, Refusal> {
         let idle = Thread {
             process: 0,
@@ -326,7 +327,7 @@ impl Run {
         Ok(threads[0].call.is_some() || threads[1].call.is_some() || threads[2].call.is_some())
     }
 
-    /// Each thread invokes an operation, and then all but two at most end. Whether one stays open.
+    /// Lets each thread invoke an operation, and then ends all except at most two. Returns whether an operation is open at the end.
     fn open_all(&mut self, numbers: &mut Numbers) -> Result<bool, Refusal> {
         let mut threads = [Thread {
             process: 0,
@@ -343,12 +344,12 @@ impl Run {
     }
 }
 
-/// How many histories are legal, are illegal, have an open operation at the end, a failed one, a crashed one, a crashed read; have more ends
-/// than the budget, have an event that a plain kind answers otherwise, and are legal by their orders but not by their ends, or the other way
-/// round.
+/// The numbers of histories with these properties: legal; illegal; with an open operation at the end, a failed operation, a crashed
+/// operation or a crashed read. Further: with more ends than the budget; with another answer of the plain kind; with a disagreement between
+/// orders and ends.
 type Tally = [u32; 9];
 
-/// The tally with one more history, after both answers about it were compared.
+/// Returns the tally after one more history, whose two answers were compared.
 fn compare(
     alloc: Global,
     numbers: &mut Numbers,
@@ -386,26 +387,29 @@ fn with(mut tally: Tally, is_such: [bool; 9]) -> Tally {
     tally
 }
 
-/// Histories to be compared: the seed of their numbers, their form, how many there are of each kind, and how many of these are legal; and
-/// the tally of all, or None.
+/// Histories to be compared: the seed of their numbers, their form, and the numbers of histories and of legal histories of each kind, by its
+/// name. `all` has the expected numbers of the tally; a number without a value is not compared.
 struct Compared {
     seed: u64,
     form: Form,
     count: u32,
-    kinds: &'static [(ModelKind, u32)],
+    kinds: &'static [(&'static str, u32)],
     all: [Option<u32>; 9],
 }
 
-/// The tally of the histories; None if more or fewer of a kind are legal.
+/// Returns the tally of the histories, or `None` if there is no such kind, or if the number of legal histories of a kind is wrong.
 fn tally_of(alloc: Global, compared: &Compared) -> Result<Option<Tally>, Refusal> {
     let mut numbers = Numbers {
         state: compared.seed,
     };
     let mut tally = [0; 9];
-    for (kind, legal) in compared.kinds {
+    for (name, legal) in compared.kinds {
+        let Some(kind) = ModelKind::of_name(name) else {
+            return Ok(None);
+        };
         let before = tally[0];
         for _ in 0..compared.count {
-            tally = compare(alloc, &mut numbers, *kind, compared.form, tally)?;
+            tally = compare(alloc, &mut numbers, kind, compared.form, tally)?;
         }
         if tally[0] != before.wrapping_add(*legal) {
             return Ok(None);
@@ -430,23 +434,23 @@ fn agree(alloc: Global, compared: &Compared) -> bool {
     }
 }
 
-/// There are 600 histories, 60 of each kind but wide fifo queues, since values are equal here. The rows have how many are legal. In 520 an
-/// operation is open at the end, in 296 one has failed, in 326 one has crashed.
+/// 600 histories, 60 of each kind except wide FIFO queues, since values are equal here. The rows say how many histories of each kind are
+/// legal. In 520 an operation is open at the end, in 296 one has failed, in 326 one has crashed.
 const MIXED: Compared = Compared {
     seed: 1,
     form: Form::Mixed,
     count: 60,
     kinds: &[
-        (ModelKind::Register, 24),
-        (ModelKind::CasRegister, 24),
-        (ModelKind::Mutex, 34),
-        (ModelKind::FifoQueue, 20),
-        (ModelKind::Set, 14),
-        (ModelKind::UnorderedQueue, 23),
-        (ModelKind::WideRegister, 34),
-        (ModelKind::WideSet, 17),
-        (ModelKind::WideCasRegister, 28),
-        (ModelKind::WideUnorderedQueue, 20),
+        ("register", 24),
+        ("cas-register", 24),
+        ("mutex", 34),
+        ("fifo-queue", 20),
+        ("set", 14),
+        ("unordered-queue", 23),
+        ("wide-register", 34),
+        ("wide-set", 17),
+        ("wide-cas-register", 28),
+        ("wide-unordered-queue", 20),
     ],
     all: [
         Some(238),
@@ -466,19 +470,19 @@ fn orders_and_ends_agree(rt: HostRuntime) {
     assert!(rt; agree(rt.alloc(), &MIXED));
 }
 
-/// 120 more histories, 20 of each kind, each have eight operations that are open at once. This number are legal and the others are not. In
-/// 80 an operation has failed, in 89 one has crashed.
+/// 120 further histories, 20 of each kind, with eight operations that are open at once. The rows say how many histories of each kind are
+/// legal. In 80 an operation has failed, in 89 one has crashed.
 const EIGHT_OPEN: Compared = Compared {
     seed: 2,
     form: Form::AllOpen,
     count: 20,
     kinds: &[
-        (ModelKind::Register, 14),
-        (ModelKind::CasRegister, 13),
-        (ModelKind::Mutex, 14),
-        (ModelKind::FifoQueue, 8),
-        (ModelKind::Set, 12),
-        (ModelKind::UnorderedQueue, 8),
+        ("register", 14),
+        ("cas-register", 13),
+        ("mutex", 14),
+        ("fifo-queue", 8),
+        ("set", 12),
+        ("unordered-queue", 8),
     ],
     all: [
         Some(69),
@@ -498,16 +502,17 @@ fn orders_and_ends_agree_on_eight_open(rt: HostRuntime) {
     assert!(rt; agree(rt.alloc(), &EIGHT_OPEN));
 }
 
-/// So it is of 80 more, 20 of each wide kind but that of fifo queues. In 56 an operation has failed, in 65 one has crashed.
+/// 80 further histories, 20 of each wide kind except FIFO queues, with eight operations that are open at once. In 56 an operation has
+/// failed, in 65 one has crashed.
 const WIDE_EIGHT_OPEN: Compared = Compared {
     seed: 4,
     form: Form::AllOpen,
     count: 20,
     kinds: &[
-        (ModelKind::WideRegister, 14),
-        (ModelKind::WideSet, 12),
-        (ModelKind::WideCasRegister, 12),
-        (ModelKind::WideUnorderedQueue, 8),
+        ("wide-register", 14),
+        ("wide-set", 12),
+        ("wide-cas-register", 12),
+        ("wide-unordered-queue", 8),
     ],
     all: [
         Some(46),
@@ -527,21 +532,21 @@ fn wide_kinds_agree_on_eight_open(rt: HostRuntime) {
     assert!(rt; agree(rt.alloc(), &WIDE_EIGHT_OPEN));
 }
 
-/// There are 400 more histories: 50 for each kind that reads and for each kind of unordered queues. Half of their reads that end crash. The
-/// rows have how many are legal. In 217 a read has crashed, in 214 an operation has failed.
+/// 400 further histories, 50 of each kind with reads and of each kind of unordered queue. Half of the reads that end crash. The rows say
+/// how many histories of each kind are legal. In 217 a read has crashed, in 214 an operation has failed.
 const CRASHED_READS: Compared = Compared {
     seed: 3,
     form: Form::Crashing,
     count: 50,
     kinds: &[
-        (ModelKind::Register, 33),
-        (ModelKind::CasRegister, 23),
-        (ModelKind::Set, 24),
-        (ModelKind::UnorderedQueue, 10),
-        (ModelKind::WideRegister, 27),
-        (ModelKind::WideSet, 28),
-        (ModelKind::WideCasRegister, 18),
-        (ModelKind::WideUnorderedQueue, 18),
+        ("register", 33),
+        ("cas-register", 23),
+        ("set", 24),
+        ("unordered-queue", 10),
+        ("wide-register", 27),
+        ("wide-set", 28),
+        ("wide-cas-register", 18),
+        ("wide-unordered-queue", 18),
     ],
     all: [
         Some(181),

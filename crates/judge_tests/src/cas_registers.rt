@@ -1,4 +1,4 @@
-//! Histories of registers with compare and set that are judged by their ends.
+//! Histories of registers with compare and set, which are judged by their ends.
 use crate::judge_rows::Answer::{Nil, One, Two};
 use crate::judge_rows::{Case, Row, Steps};
 use events::EventKind::{Fail as Failed, Info as Crashed, Invoke, Ok as Done};
@@ -19,7 +19,7 @@ const NO_VALUE_TO_COMPARE: [Row; 2] = [
     (0, Done, Cas, Two(5, 6), Dead),
 ];
 
-// The cas timed out, and took place: the read needs it.
+// The cas timed out and took place, since the read needs it.
 const CAS_THAT_TIMED_OUT: [Row; 8] = [
     (0, Invoke, Write, One(1), Alive),
     (0, Done, Write, One(1), Alive),
@@ -31,7 +31,7 @@ const CAS_THAT_TIMED_OUT: [Row; 8] = [
     (3, Done, Read, One(1), Dead),
 ];
 
-// The read needs both of them, one behind the other.
+// The read needs both operations, one after the other.
 const TWO_IN_A_ROW: [Row; 7] = [
     (0, Invoke, Cas, Two(1, 2), Alive),
     (1, Invoke, Cas, Two(2, 3), Alive),
@@ -63,14 +63,14 @@ const NIL_FITS_ALWAYS: [Row; 4] = [
     (1, Done, Read, Nil, Alive),
 ];
 
-// The ok meets three fronts: neither write came yet, or one of them did.
+// Just before the ok there are three fronts: neither write took place yet, or one of them did.
 const THREE_FRONTS: [Row; 3] = [
     (0, Invoke, Write, One(5), Alive),
     (1, Invoke, Write, One(6), Alive),
     (1, Done, Write, One(6), Alive),
 ];
 
-// After Over the register stands for the same histories as before.
+// After Over the register represents the same histories as before.
 const THREE_FRONTS_OF_TWO: [Row; 4] = [
     (0, Invoke, Write, One(5), Alive),
     (1, Invoke, Write, One(6), Alive),
@@ -78,18 +78,18 @@ const THREE_FRONTS_OF_TWO: [Row; 4] = [
     (1, Failed, Write, One(6), Alive),
 ];
 
-/// The cases of this kind.
+/// The cases of registers with compare and set.
 pub const CASES: [Case; 8] = [
     // Legal histories.
     (2, &NIL_FITS_ALWAYS, Steps::Are(3)),
-    // Illegal ones.
+    // Illegal histories.
     (2, &STALE_READ, Steps::Are(5)),
     (1, &NO_VALUE_TO_COMPARE, Steps::Are(1)),
-    // Operations that have to be placed.
+    // Histories in which an operation must be placed before another one.
     (2, &CAS_THAT_TIMED_OUT, Steps::Are(8)),
     (4, &TWO_IN_A_ROW, Steps::Are(21)),
     (9, &HIDDEN_WRITE_IS_FOUND, Steps::Any),
-    // Some that are over a budget.
+    // Histories that exceed a budget.
     (3, &THREE_FRONTS, Steps::Are(6)),
     (2, &THREE_FRONTS_OF_TWO, Steps::Are(2)),
 ];

@@ -1,11 +1,11 @@
-//! Histories of queues.
+//! Histories of FIFO queues.
 use crate::judge_rows::Answer::{Nil, One};
 use crate::judge_rows::{Case, Row, Steps};
 use events::EventKind::{Fail as Failed, Info as Crashed, Invoke, Ok as Done};
 use frontier::Step::{Alive, Dead, Over};
 use models::Name::{Dequeue, Enqueue, Read};
 
-// The values overlap, so either may come out first, but not twice.
+// The enqueues overlap, so either value may be dequeued first, but none twice.
 const EITHER_FIRST: [Row; 10] = [
     (0, Invoke, Enqueue, One(5), Alive),
     (1, Invoke, Enqueue, One(6), Alive),
@@ -19,7 +19,7 @@ const EITHER_FIRST: [Row; 10] = [
     (4, Done, Dequeue, One(6), Dead),
 ];
 
-// 5 came in before 6, and no other dequeue can have taken it.
+// 5 came in before 6, and no other dequeue can have removed it.
 const OUT_OF_TURN: [Row; 8] = [
     (0, Invoke, Enqueue, One(5), Alive),
     (0, Done, Enqueue, One(5), Alive),
@@ -31,7 +31,7 @@ const OUT_OF_TURN: [Row; 8] = [
     (3, Done, Dequeue, One(5), Dead),
 ];
 
-// A dequeue that crashed may have taken 5, until an ok shows that one which began later did.
+// A dequeue that crashed may have removed 5, until an ok shows that a dequeue that began later did.
 const CRASHED_TAKER: [Row; 10] = [
     (0, Invoke, Enqueue, One(5), Alive),
     (0, Done, Enqueue, One(5), Alive),
@@ -64,7 +64,7 @@ const FAILED_ENQUEUE_CAME_OUT: [Row; 5] = [
     (2, Invoke, Dequeue, Nil, Alive),
 ];
 
-// Two enqueues of 5 are one too many, until one fails.
+// Two enqueues of 5 exceed every budget, until one of them fails.
 const EQUAL_VALUES: [Row; 8] = [
     (0, Invoke, Enqueue, One(5), Alive),
     (1, Invoke, Enqueue, One(5), Alive),
@@ -76,7 +76,7 @@ const EQUAL_VALUES: [Row; 8] = [
     (3, Invoke, Enqueue, One(5), Alive),
 ];
 
-// A failed enqueue leaves nothing.
+// A failed enqueue leaves no value.
 const FAILED_ENQUEUE: [Row; 6] = [
     (0, Invoke, Enqueue, One(5), Alive),
     (0, Failed, Enqueue, One(5), Alive),
@@ -98,7 +98,7 @@ const NEVER_ENQUEUED: [Row; 2] = [
 
 const NO_READS: [Row; 2] = [(0, Invoke, Read, Nil, Alive), (0, Done, Read, One(5), Dead)];
 
-/// The cases of this kind. Nothing is tried.
+/// The cases of FIFO queues. No operation is tried.
 pub const CASES: [Case; 10] = [
     (1, &EITHER_FIRST, Steps::Are(0)),
     (1, &OUT_OF_TURN, Steps::Are(0)),

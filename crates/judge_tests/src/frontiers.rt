@@ -1,4 +1,4 @@
-//! Answers of frontiers that no command shows: each event by its own call, a key over budget twice, and the counts of steps.
+//! Answers of frontiers that no command shows: each event by its own call, a key that exceeds its budget twice, and the numbers of steps.
 use crate::judge_rows::Answer::{Nil, One};
 use crate::judge_rows::{Case, Row, Steps};
 use events::EventKind::{Fail as Failed, Invoke, Ok as Done};
@@ -8,8 +8,8 @@ use models::Name::{Enqueue, Read, Write};
 use models::{Answer, Name, Op, Part, Register};
 use std::alloc::{AllocError, Global};
 
-// Five ends stand before the ok: no enqueue, either alone, and both in either order. Over leaves the frontier as it was: the other enqueue may
-// still fail, and then there are fewer.
+// Just before the ok there are five ends: neither enqueue, either one, or both in either order. Over does not change the frontier: if the
+// other enqueue then fails, there are fewer ends.
 const BLOWN_TWICE: [Row; 6] = [
     (0, Invoke, Enqueue, One(5), Alive),
     (1, Invoke, Enqueue, One(6), Alive),
@@ -24,15 +24,15 @@ const OPEN_ENQUEUES: [Row; 2] = [
     (1, Invoke, Enqueue, One(6), Alive),
 ];
 
-// The ok finds five ends: it tries both enqueues on the empty queue, the second one on each end with the first, and none on the two ends
-// with both.
+// The ok finds five ends. It tries both enqueues on the empty queue. It tries the second one on each end with the first one, and none on
+// the two ends with both.
 const TWO_ENQUEUES: [Row; 3] = [
     (0, Invoke, Enqueue, One(5), Alive),
     (1, Invoke, Enqueue, One(6), Alive),
     (0, Done, Enqueue, One(5), Alive),
 ];
 
-/// Cases of queues.
+/// The cases of queues.
 pub const OF_QUEUES: [Case; 3] = [
     (4, &BLOWN_TWICE, Steps::Any),
     (5, &OPEN_ENQUEUES, Steps::Are(0)),
@@ -45,8 +45,8 @@ const OPEN_WRITES: [Row; 3] = [
     (2, Invoke, Read, Nil, Alive),
 ];
 
-// Two writes of different values are open, and a read returns. An invocation tries nothing, and the ok no more than each of
-// the open operations on one more end than the budget.
+// Two writes of different values are open, and a read returns. An invocation tries nothing. The ok tries each open operation at most once
+// on each end, and on at most one end more than the budget.
 const TWO_WRITES: [Row; 4] = [
     (0, Invoke, Write, One(1), Alive),
     (1, Invoke, Write, One(2), Alive),
@@ -54,13 +54,13 @@ const TWO_WRITES: [Row; 4] = [
     (2, Done, Read, One(1), Over),
 ];
 
-/// Cases of registers.
+/// The cases of registers.
 pub const OF_REGISTERS: [Case; 2] = [
     (5, &OPEN_WRITES, Steps::Are(0)),
     (5, &TWO_WRITES, Steps::AreAtMost(12)),
 ];
 
-/// An event by its own call.
+/// An event, given by its own call.
 #[derive(Clone, Copy)]
 enum Call {
     Write(i64),
@@ -74,7 +74,7 @@ fn op(name: Name, part: Part) -> Op {
     Op { name, key: 7, part }
 }
 
-// The answer of the call for this operation; an invocation and a crash leave the frontier alive.
+// Returns the answer of the call for operation `id`. An invocation and a crash leave the frontier alive.
 fn answer(frontier: &mut Frontier<Register>, id: u32, call: Call) -> Result<Step, AllocError> {
     match call {
         Call::Write(value) => frontier.invoke(id, op(Name::Write, Part::Int(value)))?,
@@ -86,7 +86,7 @@ fn answer(frontier: &mut Frontier<Register>, id: u32, call: Call) -> Result<Step
     Ok(Alive)
 }
 
-// Whether a new frontier answers each call so.
+// Returns whether a new frontier gives its answer to each call.
 fn are_answered(alloc: Global, budget: u32, rows: &[Own]) -> Result<bool, AllocError> {
     let mut frontier = Frontier::start(alloc, budget)?;
     for (id, call, want) in rows {
@@ -97,13 +97,13 @@ fn are_answered(alloc: Global, budget: u32, rows: &[Own]) -> Result<bool, AllocE
     Ok(true)
 }
 
-/// Calls of a frontier, and their answers.
+/// A call of a frontier, and its answer.
 type Own = (u32, Call, Step);
 
 // Just before the ok there are two ends: the write has taken place or not.
 const BLOWN: [Own; 2] = [(0, Call::Write(3), Alive), (0, Call::Ok(3), Over)];
 
-// A read has found a write that then fails.
+// A read has found the value of a write that then fails.
 const FAILED_WRITE: [Own; 4] = [
     (0, Call::Write(1), Alive),
     (1, Call::Read, Alive),
@@ -111,7 +111,7 @@ const FAILED_WRITE: [Own; 4] = [
     (0, Call::Fail, Dead),
 ];
 
-// A write of 2 has crashed after a write of 1: a read may find 1 and the next one 2, and then none finds 1.
+// A write of 2 has crashed after a write of 1. A read may find 1 and the next one 2, and then no read finds 1.
 const CRASHED_WRITE: [Own; 10] = [
     (0, Call::Write(1), Alive),
     (0, Call::Ok(1), Alive),

@@ -10,7 +10,7 @@ pub struct Judge {
     frontier: AnyFrontier,
 }
 
-// So that who holds one gives it back by one call.
+// With this implementation, an owner drops a judge by one call.
 impl Drop for Judge {
     fn drop(self) {
         let Judge {
@@ -32,7 +32,7 @@ impl Judge {
         })
     }
 
-    /// The answer to an event, whose change is prepared and then committed.
+    /// Returns the answer to an event. Prepares the change and then commits it.
     pub fn prepare_and_commit(
         &mut self,
         id: u32,
@@ -44,12 +44,12 @@ impl Judge {
         Ok(step)
     }
 
-    /// The answer to an event.
+    /// Returns the answer to an event.
     pub fn observe(&mut self, id: u32, kind: EventKind, op: &Op) -> Result<Step, AllocError> {
         self.frontier.observe(id, kind, op)
     }
 
-    /// How many steps were made so far.
+    /// Returns the number of steps so far.
     pub fn applied(&self) -> u64 {
         self.frontier.applied()
     }

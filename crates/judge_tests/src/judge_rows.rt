@@ -1,4 +1,4 @@
-//! Histories of one key as rows, and the answers of its judge to them.
+//! Histories of one key as rows, with the answers of its judge.
 use crate::judge::Judge;
 use events::EventKind;
 use frontier::Step;
@@ -7,7 +7,7 @@ use models::{Name, Op, Part};
 use std::alloc::{AllocError, Global};
 use values::Members;
 
-/// The value of an event: nothing, an integer, two, or the members of a set.
+/// The value of an event: nothing, an integer, two integers, or the members of a set.
 #[derive(Clone, Copy)]
 pub enum Answer {
     Nil,
@@ -19,13 +19,13 @@ pub enum Answer {
 /// An event of the operation with this id, and the answer of the judge.
 pub type Row = (u32, EventKind, Name, Answer, Step);
 
-/// How many steps a judge makes of a history.
+/// The number of steps that a judge makes for a history.
 #[derive(Clone, Copy)]
 pub enum Steps {
     Are(u64),
     AreAtMost(u64),
     Any,
-    /// It has another answer to one of the rows.
+    /// The judge gives another answer to one of the rows.
     AnotherAnswer,
 }
 
@@ -46,7 +46,8 @@ fn op_of(alloc: Global, row: &Row) -> Result<Op, AllocError> {
     })
 }
 
-// Whether the judge has the answer of the row, both in two halves and, by a copy, at once. The copy takes its place if `by_copies`.
+// Returns whether the judge gives the answer of the row, both by `prepare` and `commit` and, on a copy, by one call. If `by_copies`, the
+// copy replaces the judge.
 fn judge_row(judge: &mut Judge, row: &Row, op: &Op, by_copies: bool) -> Result<bool, AllocError> {
     let (id, kind, _, _, want) = *row;
     let mut copy = judge.copy()?;
@@ -59,8 +60,8 @@ fn judge_row(judge: &mut Judge, row: &Row, op: &Op, by_copies: bool) -> Result<b
     Ok(same)
 }
 
-/// The steps that a judge of this kind makes of the rows, as it and its copy say; None at the first row with another answer. A copy of the
-/// judge goes on after each row if `by_copies`.
+/// Returns the number of steps that a judge of this kind makes for the rows, on which the judge and its copy agree. `None` at the first row
+/// with another answer. If `by_copies`, a copy replaces the judge after each row.
 pub fn steps_of(
     alloc: Global,
     kind: ModelKind,
@@ -80,7 +81,7 @@ pub fn steps_of(
     Ok(if copied == steps { Some(steps) } else { None })
 }
 
-/// Whether the steps are such.
+/// Returns whether `found` is the expected number of steps.
 pub fn are_so(found: Result<Option<u64>, AllocError>, steps: Steps) -> bool {
     match (found, steps) {
         (Ok(Some(found)), Steps::Are(steps)) => found == steps,

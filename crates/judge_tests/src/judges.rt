@@ -1,4 +1,4 @@
-//! The judges of all kinds on their cases.
+//! The judges of all kinds, on their cases.
 use crate::judge_rows::{Case, are_so, steps_of};
 use crate::{cas_registers, fifo_queues, frontiers, registers, sets, unordered_queues};
 use kinds::ModelKind;
@@ -6,7 +6,7 @@ use std::alloc::{AllocError, Global};
 use wide_cas_register::WideCasRegister;
 use wide_register::WideRegister;
 
-// The cases of a kind, and whether a copy of the judge goes on after each event.
+// The cases of a kind, and whether a copy replaces the judge after each event.
 type Judged = (ModelKind, &'static [Case], bool);
 
 const JUDGED: [Judged; 10] = [

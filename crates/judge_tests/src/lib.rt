@@ -1,5 +1,5 @@
-//! Worked rows: calls of the crates that judge, each answer compared with one that follows from the definitions by hand; and two ways to
-//! judge small histories, compared with one another. It has tests alone.
+//! Examples for the crates that judge. Each answer of a call is compared with one that follows by hand from the definitions. Two ways to
+//! judge small histories are also compared with each other. The crate has only tests.
 #![tactic(auto)]
 
 #[cfg(test)]

@@ -78,7 +78,7 @@ const ADDED_AGAIN: [Row; 12] = [
 
 const NIL_IS_NO_SET: [Row; 2] = [(0, Invoke, Read, Nil, Alive), (0, Done, Read, Nil, Dead)];
 
-/// The cases of this kind. Nothing is tried, and no budget is exceeded.
+/// The cases of sets. No operation is tried, and no budget is exceeded.
 pub const CASES: [Case; 8] = [
     (1, &STALE_READ, Steps::Are(0)),
     (1, &CROSSED_ANSWERS, Steps::Are(0)),

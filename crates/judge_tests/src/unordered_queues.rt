@@ -1,4 +1,4 @@
-//! Histories of queues without an order.
+//! Histories of unordered queues.
 use crate::judge_rows::Answer::{Nil, One};
 use crate::judge_rows::{Case, Row, Steps};
 use events::EventKind::{Fail as Failed, Info as Crashed, Invoke, Ok as Done};
@@ -48,7 +48,7 @@ const FAILED_ENQUEUE_SERVED: [Row; 4] = [
     (0, Failed, Enqueue, One(5), Dead),
 ];
 
-// The enqueue that comes later cannot have served.
+// The enqueue that was invoked later cannot serve the dequeue.
 const LATER_ENQUEUE: [Row; 6] = [
     (0, Invoke, Enqueue, One(5), Alive),
     (1, Invoke, Dequeue, Nil, Alive),
@@ -58,7 +58,7 @@ const LATER_ENQUEUE: [Row; 6] = [
     (0, Failed, Enqueue, One(5), Dead),
 ];
 
-// One of two may fail, and then the other may not.
+// Either enqueue may fail, but not both.
 const ONE_OF_TWO_FAILS: [Row; 6] = [
     (0, Invoke, Enqueue, One(5), Alive),
     (1, Invoke, Enqueue, One(5), Alive),
@@ -83,7 +83,7 @@ const NIL_IS_NO_VALUE: [Row; 2] = [
     (0, Done, Dequeue, Nil, Dead),
 ];
 
-/// The cases of this kind. Nothing is tried, and no budget is exceeded.
+/// The cases of unordered queues. No operation is tried, and no budget is exceeded.
 pub const CASES: [Case; 8] = [
     (1, &ANY_ORDER, Steps::Are(0)),
     (1, &DEQUEUED_TWICE, Steps::Are(0)),

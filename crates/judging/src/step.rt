@@ -1,12 +1,12 @@
 //! The status of a key's history after an event.
 
-/// What an event leaves.
+/// The status of the history after an event.
 #[derive(Clone, Copy, Debug, PartialEq, Eq)]
 pub enum Step {
     /// The history is linearizable.
     Alive,
     /// The history is not linearizable.
     Dead,
-    /// More than the budget was counted just before the event.
+    /// Just before the event, the count exceeded the budget.
     Over,
 }

@@ -5,9 +5,9 @@ use Rattle.models.specs.declared.operation.Op.{Op}
 use Rattle.models.specs.declared.finding.Found.{Found}
 use Rattle.models.specs.Objects.{IsOneOf}
 use Rattle.kinds.specs.declared.model_kind.ModelKind.{ModelKind}
-use Rattle.kinds.specs.declared.model_kind.ModelKind.TheVariants.{Register, CasRegister, Mutex, FifoQueue, Set, UnorderedQueue, WideRegister, WideCasRegister, WideSet, WideFifoQueue, WideUnorderedQueue}
+use Rattle.kinds.specs.declared.model_kind.ModelKind.TheVariants.{Register, CasRegister, Mutex, FifoQueue, Set, UnorderedQueue, WideRegister, WideCasRegister, WideSet, WideFifoQueue, WideUnorderedQueue, Own}
 use Rattle.kinds.specs.declared.any_state.AnyState.{AnyState}
-use Rattle.kinds.specs.declared.any_state.AnyState.TheVariants.{Register as OfRegister, CasRegister as OfCasRegister, Mutex as OfMutex, FifoQueue as OfFifoQueue, Set as OfSet, UnorderedQueue as OfUnorderedQueue, WideRegister as OfWideRegister, WideCasRegister as OfWideCasRegister, WideSet as OfWideSet, WideFifoQueue as OfWideFifoQueue, WideUnorderedQueue as OfWideUnorderedQueue}
+use Rattle.kinds.specs.declared.any_state.AnyState.TheVariants.{Register as OfRegister, CasRegister as OfCasRegister, Mutex as OfMutex, FifoQueue as OfFifoQueue, Set as OfSet, UnorderedQueue as OfUnorderedQueue, WideRegister as OfWideRegister, WideCasRegister as OfWideCasRegister, WideSet as OfWideSet, WideFifoQueue as OfWideFifoQueue, WideUnorderedQueue as OfWideUnorderedQueue, Own as OfOwn}
 use Rattle.kinds.specs.Kinds.{table_of, object_of}
 use Rattle.kinds.specs.AnyState.{any, kind_of_state, outcomes_of, AreOwnOutcomes}
 
@@ -28,6 +28,7 @@ own_at WideCasRegister s op r h = h
 own_at WideSet s op r h = h
 own_at WideFifoQueue s op r h = h
 own_at WideUnorderedQueue s op r h = h
+own_at (Own object) s op r h = h
 
 -- a fact about the state's own kind holds for any kind whose state it is
 pub outcomes-own : (a : AnyState) (op : Op) (r : Result (Vec (AnyState × Found) Global) AllocError)
@@ -75,6 +76,7 @@ is_own (OfWideCasRegister s) = (s, refl)
 is_own (OfWideSet s) = (s, refl)
 is_own (OfWideFifoQueue s) = (s, refl)
 is_own (OfWideUnorderedQueue s) = (s, refl)
+is_own (OfOwn object s) = (s, refl)
 
 pub kind_of_state-any : (kind : ModelKind) (s : (object_of kind).State) → kind_of_state (any kind s) ≡ kind
 kind_of_state-any Register s = refl
@@ -88,3 +90,4 @@ kind_of_state-any WideCasRegister s = refl
 kind_of_state-any WideSet s = refl
 kind_of_state-any WideFifoQueue s = refl
 kind_of_state-any WideUnorderedQueue s = refl
+kind_of_state-any (Own object) s = refl

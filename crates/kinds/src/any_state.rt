@@ -1,5 +1,5 @@
 //! A state of an object of any kind.
-ghost use Rattle.std.specs.Prelude.{◌≡◌, ◌↔◌, IsTrue, IfOk};
+ghost use Rattle.std.specs.Prelude.{◌≡◌, IfOk};
 ghost use Rattle.kinds.specs.declared.model_kind.ModelKind.{ModelKind};
 ghost use Rattle.kinds.specs.Kinds.{object_of};
 ghost use Rattle.kinds.specs.AnyState.{any, kind_of_state, outcomes_of, AreOwnOutcomes};
@@ -12,10 +12,12 @@ use crate::wide_set::WideSet;
 use crate::wide_unordered_queue::WideUnorderedQueue;
 use crate::{each_kind, of_kind};
 use models::{CasRegister, FifoQueue, Found, Mutex, Op, Register, SeqObject, Set, UnorderedQueue};
+use objects::{Own, OwnObject, Specification};
+use rules::State;
 use std::alloc::{AllocError, Global};
 use values::{Items, Multiset, Spans};
 
-/// A state of an object whose kind is known only as the program runs.
+/// A state of an object whose kind is known only at run time.
 pub enum AnyState {
     Register(Option<i64>),
     CasRegister(Option<i64>),
@@ -28,12 +30,15 @@ pub enum AnyState {
     WideSet(Spans),
     WideFifoQueue(Items),
     WideUnorderedQueue(Multiset),
+    /// A state of an object by rules, with the object.
+    Own(&'static OwnObject, State),
 }
 
 macro_rules! drop_of {
     ($state:expr; $($K:ident $name:literal),*) => {
         match $state {
             $(AnyState::$K(_state) => {})*
+            AnyState::Own(_object, _state) => {}
         }
     };
 }
@@ -42,6 +47,7 @@ macro_rules! start_of {
     ($alloc:expr, $kind:expr; $($K:ident $name:literal),*) => {
         match $kind {
             $(ModelKind::$K => AnyState::$K($K::start($alloc)),)*
+            ModelKind::Own(object) => AnyState::Own(object, Own { object }.start($alloc)),
         }
     };
 }
@@ -50,6 +56,7 @@ macro_rules! state_kind {
     ($state:expr; $($K:ident $name:literal),*) => {
         match $state {
             $(AnyState::$K(_) => ModelKind::$K,)*
+            AnyState::Own(object, _) => ModelKind::Own(*object),
         }
     };
 }
@@ -58,15 +65,7 @@ macro_rules! copy_of_state {
     ($state:expr, $alloc:expr; $($K:ident $name:literal),*) => {
         match $state {
             $(AnyState::$K(state) => Ok(AnyState::$K($K::copy($alloc, state)?)),)*
-        }
-    };
-}
-
-macro_rules! same_state {
-    ($a:expr, $b:expr; $($K:ident $name:literal),*) => {
-        match ($a, $b) {
-            $((AnyState::$K(a), AnyState::$K(b)) => $K::same(a, b),)*
-            _ => false,
+            AnyState::Own(object, state) => Ok(AnyState::Own(*object, *state)),
         }
     };
 }
@@ -75,11 +74,12 @@ macro_rules! outcomes_of_state {
     ($state:expr, $alloc:expr, $op:expr; $($K:ident $name:literal),*) => {
         match $state {
             $(AnyState::$K(state) => of_kind::outcomes_in::<$K>($alloc, state, $op),)*
+            AnyState::Own(object, state) => of_kind::outcomes_by_rules($alloc, *object, state, $op),
         }
     };
 }
 
-// So that crates above give one back by one call.
+// With this implementation, a crate above drops a state by one call.
 impl Drop for AnyState {
     fn drop(self) {
         each_kind!(drop_of; self)
@@ -87,38 +87,32 @@ impl Drop for AnyState {
 }
 
 impl AnyState {
-    /// The start state of an object of this kind.
+    /// Returns the start state of an object of this kind.
     pub fn start(alloc: Global, kind: ModelKind) -> AnyState
         ensures { result ≡ any kind (object_of kind).start }
     {
         each_kind!(start_of; alloc, kind)
     }
 
-    /// The kind of the object whose state this is. Takes constant time.
+    /// Returns the kind of the object that has this state. Takes constant time.
     pub fn kind(&self) -> ModelKind
         ensures { result ≡ kind_of_state self.now }
     {
         each_kind!(state_kind; self)
     }
 
-    /// An equal state; `AllocError` if there is no memory for it, or if as many share the items or values of a queue as can be counted.
-    /// Costs O(spans) for a set, and else constant time: the items and values of queues are shared.
+    /// Returns an equal state. `AllocError` if an allocation fails, or if the number of states that share the items or values of a queue
+    /// cannot grow any more. Costs O(spans) for a set, and otherwise constant time: the items and values of queues are shared.
     pub fn copy(&self, alloc: Global) -> Result<AnyState, AllocError>
         ensures { IfOk result (λ other. other ≡ self.now) }
     {
         each_kind!(copy_of_state; self, alloc)
     }
 
-    /// Whether both are the same state of the same kind.
-    pub fn same(&self, other: &AnyState) -> bool
-        ensures { IsTrue result ↔ (self.now ≡ other.now) }
-    {
-        each_kind!(same_state; self, other)
-    }
-
-    /// The outcomes of the operation in the state, each once and in the order of the kind's table: the state after it and what it finds.
-    /// None if it can't take place; `AllocError` if there is no memory for a new state or for the list. Leaves the state as it was. Costs
-    /// O(spans) for a set, and O(members) for a read of it. Else each outcome costs O(log n) in the items or values.
+    /// Returns the outcomes of the operation in the state, each once and in the order of the kind's table. An outcome is the state after
+    /// the operation and the found value. The list is empty if the operation cannot take place. Does not change the state. `AllocError` if
+    /// an allocation for a new state or for the list fails. Costs O(spans) for a set, and O(members) for a read of a set. Otherwise each
+    /// outcome costs O(log n) in the items or values.
     pub fn apply(&self, alloc: Global, op: &Op) -> Result<Vec<(AnyState, Found)>, AllocError>
         ensures { (kind : ModelKind) (s : (object_of kind).State) → self.now ≡ any kind s
             → IfOk result (λ outcomes. outcomes.items ≡ outcomes_of kind s op.now) }
@@ -126,7 +120,7 @@ impl AnyState {
         self.outcomes(alloc, op)
     }
 
-    // The same, by the state's own kind.
+    // Returns the outcomes of the operation in the state, by the table of the state's own kind.
     fn outcomes(&self, alloc: Global, op: &Op) -> Result<Vec<(AnyState, Found)>, AllocError>
         ensures { IfOk result (λ outcomes. AreOwnOutcomes self.now op.now outcomes.items) }
     {

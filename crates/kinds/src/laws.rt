@@ -1,4 +1,4 @@
-//! Laws that show that each kind has a table as it should be, and states of its own.
+//! Laws that test the tables and the states of the kinds.
 ghost use Rattle.std.specs.Prelude.{◌≡◌, ◌≢◌};
 ghost use Rattle.std.specs.List.{AllPairs};
 ghost use Rattle.models.specs.declared.operation.Op.{Op};
@@ -8,7 +8,7 @@ ghost use Rattle.kinds.specs.declared.model_kind.ModelKind.{ModelKind};
 ghost use Rattle.kinds.specs.AnyState.{any, kind_of_state};
 ghost use Rattle.kinds.specs.Kinds.{object_of, table_of};
 
-/// No table lists an outcome twice; and the outcomes of an operation in a state leave different states.
+/// No table has an outcome twice. Two outcomes of one operation in one state have different states.
 pub fn table_law()
     ensures once { (kind : ModelKind) (op : Op) (s : (table_of kind).State) →
         AllPairs (λ x y. x ≢ y) ((table_of kind).apply op s) }
@@ -16,7 +16,7 @@ pub fn table_law()
         AreApart ((table_of kind).apply op s) }
 {}
 
-/// Each state of any kind is a state of its own kind, and of no other.
+/// Each state of any kind is a state of exactly one kind.
 pub fn any_state_law()
     ensures own { (a : AnyState) →
         (s : (object_of (kind_of_state a)).State) × (a ≡ any (kind_of_state a) s) }

@@ -1,7 +1,8 @@
-//! The kinds of sequential object: the name and the table of each, and states of any kind.
+//! The kinds of sequential object: the name and the table of each kind, and states of any kind.
 //!
-//! A kind ([`ModelKind`]) says which table a key has, and what its budget limits. The wide kinds have the tables of the plain ones, and
-//! count otherwise. The kinds are in one list, and the functions that tell them apart are macros over this list.
+//! A kind ([`ModelKind`]) decides the table of a key, and what the budget of a key counts. A wide kind has the same table as its plain
+//! kind, but its budget counts something else. All kinds are in one list, and the functions that distinguish them are macros over this
+//! list.
 //!
 //! A call allocates only if its result can be `AllocError`, or a refusal because memory ran out.
 #![tactic(auto)]

@@ -1,42 +1,46 @@
 //! The kinds of sequential object.
 ghost use Rattle.std.specs.Prelude.{◌≡◌};
 ghost use Rattle.models.specs.Names.{Finds};
-ghost use Rattle.kinds.specs.Kinds.{name_of};
+ghost use Rattle.kinds.specs.Kinds.{IsBuiltIn, name_of};
 
-/// The kinds of sequential object, named as in Knossos. The table of each is this project's own (`table_of` of the crate's definitions);
-/// nothing depends on Knossos's models.
-#[derive(Clone, Copy, Debug, PartialEq, Eq)]
+use objects::OwnObject;
+
+/// The kinds of sequential object, with the names that Knossos uses. The table of each kind is this project's own (`table_of` in the
+/// definitions of this crate), and no result depends on the models of Knossos.
+#[derive(Clone, Copy, Debug)]
 pub enum ModelKind {
-    /// Holds a value, nil at first: read, write.
+    /// A value, nil at first, with read and write.
     Register,
-    /// A register that also has compare and set: read, write, cas.
+    /// A value, nil at first, with read, write and cas (compare and set).
     CasRegister,
-    /// Free at first: acquire, release.
+    /// A lock, free at first, with acquire and release.
     Mutex,
-    /// Empty at first: enqueue, dequeue, in order.
+    /// A queue, empty at first, with enqueue and dequeue in order.
     FifoQueue,
-    /// Empty at first: add, and a read of all members.
+    /// A set, empty at first, with add and a read of all members.
     Set,
-    /// Empty at first: enqueue, dequeue, in any order.
+    /// A queue, empty at first, with enqueue, and dequeue in any order.
     UnorderedQueue,
-    /// A register. Its lean ends are counted.
+    /// A register. Its budget counts lean ends.
     WideRegister,
-    /// A register with compare and set. Its fronts are counted.
+    /// A register with compare and set. Its budget counts fronts.
     WideCasRegister,
-    /// A set. Nothing is counted.
+    /// A set. Its budget counts nothing.
     WideSet,
-    /// A queue. Only equal values are counted.
+    /// A queue. Its budget counts only equal values.
     WideFifoQueue,
-    /// A queue without an order. Nothing is counted.
+    /// An unordered queue. Its budget counts nothing.
     WideUnorderedQueue,
+    /// An object by rules, such as one that a user declares in a file.
+    Own(&'static OwnObject),
 }
 
-/// The list of the kinds: `each_kind!(callback; args)` is `callback!(args; KIND "name", ..)`. KIND is the kind's variant in
+/// The list of the built-in kinds: `each_kind!(callback; args)` is `callback!(args; KIND "name", ..)`. KIND is the kind's variant in
 /// each enum that has one for each kind, and its [`SeqObject`](models::SeqObject).
 ///
-/// Each function that tells the kinds apart, here and in the crates above, is such a callback. So a further kind is a line here,
-/// implementations of `SeqObject` and `OfKind`, and a variant in each of these enums. Its name and its table are cases of `name_of` and
-/// `table_of` in the crate's definitions. Proofs that go by kinds have a case too.
+/// Each function that tells the kinds apart, here and in the crates above, is such a callback, with a line for [`ModelKind::Own`] in addition.
+/// So a further kind is a line here, implementations of `SeqObject` and `OfKind`, and a variant in each of these enums. Its name and its table
+/// are cases of `name_of` and `table_of` in the crate's definitions. Proofs that go by kinds have a case too.
 #[macro_export]
 macro_rules! each_kind {
     ($callback:ident; $($args:tt)*) => {
@@ -56,7 +60,7 @@ macro_rules! each_kind {
     };
 }
 
-/// The list of the kinds whose ends are counted against the budget of a key, as [`each_kind!`] has them.
+/// The list of the kinds whose budget counts ends, in the form of [`each_kind!`].
 #[macro_export]
 macro_rules! each_kind_with_ends {
     ($callback:ident; $($args:tt)*) => {
@@ -75,6 +79,7 @@ macro_rules! name_of_kind {
     ($kind:expr; $($K:ident $name:literal),*) => {
         match $kind {
             $(ModelKind::$K => $name,)*
+            ModelKind::Own(object) => object.name.as_str(),
         }
     };
 }
@@ -89,16 +94,16 @@ macro_rules! kind_of_name {
 }
 
 impl ModelKind {
-    /// The kind's name, as a command line and a script give it.
+    /// Returns the kind's name, as command lines and scripts spell it.
     pub fn name(self) -> &'static str
         ensures { result.now ≡ name_of self }
     {
         each_kind!(name_of_kind; self)
     }
 
-    /// The kind of this name, or `None` if there is none.
+    /// The built-in kind of this name, or `None` if there is none.
     pub fn of_name(text: &str) -> Option<ModelKind>
-        ensures { Finds result (λ kind. text.now ≡ name_of kind) }
+        ensures { Finds result (λ kind. IsBuiltIn kind × (text.now ≡ name_of kind)) }
     {
         each_kind!(kind_of_name; text)
     }

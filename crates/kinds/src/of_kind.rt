@@ -1,6 +1,8 @@
-//! States of one kind as states of any kind.
+//! Conversions from states of one kind to states of any kind.
 ghost use Rattle.std.specs.Prelude.{◌≡◌, IfOk, map};
+ghost use Rattle.objects.specs.Own.{rules_apply};
 ghost use Rattle.kinds.specs.declared.any_state.AnyState.{AnyState};
+ghost use Rattle.kinds.specs.declared.any_state.AnyState.TheVariants.{Own as OfOwn};
 
 use crate::any_state::AnyState;
 use crate::wide_cas_register::WideCasRegister;
@@ -9,14 +11,16 @@ use crate::wide_register::WideRegister;
 use crate::wide_set::WideSet;
 use crate::wide_unordered_queue::WideUnorderedQueue;
 use models::{CasRegister, FifoQueue, Found, Mutex, Op, Register, SeqObject, Set, UnorderedQueue};
+use objects::{Own, OwnObject, Specification};
+use rules::State;
 use std::alloc::{AllocError, Global};
 use values::{Items, Multiset, Spans};
 
-/// A sequential object whose states are states of [`AnyState`].
+/// A sequential object whose states can be converted to [`AnyState`].
 pub(crate) trait OfKind: SeqObject {
     ghost as_any: { Self.State → AnyState };
 
-    /// The state, as one of any kind.
+    /// Returns the state as an [`AnyState`].
     fn into_any(state: Self::State) -> AnyState
         ensures { result ≡ as_any state };
 }
@@ -142,7 +146,7 @@ impl OfKind for WideUnorderedQueue {
     }
 }
 
-/// The outcomes of the operation in the state of an object of this kind, each with its state as an [`AnyState`].
+/// Returns the outcomes of the operation in a state of an object of this kind, with each state as an [`AnyState`].
 pub(crate) fn outcomes_in<K: OfKind>(
     alloc: Global,
     state: &K::State,
@@ -155,5 +159,23 @@ pub(crate) fn outcomes_in<K: OfKind>(
     outcomes
         .into_iter()
         .map(|outcome| (K::into_any(outcome.0), outcome.1))
+        .collect(alloc)
+}
+
+/// The outcomes of the operation in the state of an object by rules, each with its state as an [`AnyState`].
+pub(crate) fn outcomes_by_rules(
+    alloc: Global,
+    object: &'static OwnObject,
+    state: &State,
+    op: &Op,
+) -> Result<Vec<(AnyState, Found)>, AllocError>
+    ensures { IfOk result (λ outcomes. outcomes.items
+        ≡ map (λ outcome. (OfOwn object.entry outcome.0, outcome.1)) (rules_apply object.now.rules op.now state.now)) }
+{
+    let mut outcomes = Vec::new(alloc);
+    Own { object }.append_outcomes(alloc, state, op, &mut outcomes)?;
+    outcomes
+        .into_iter()
+        .map(|outcome| (AnyState::Own(object, outcome.0), outcome.1))
         .collect(alloc)
 }

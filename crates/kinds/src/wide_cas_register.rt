@@ -1,4 +1,4 @@
-//! The register with compare and set whose fronts are counted.
+//! The wide register with compare and set: its budget counts fronts.
 ghost use Rattle.std.specs.Prelude.{None};
 ghost use Rattle.values.specs.Comparisons.{option_eq-exact};
 ghost use Rattle.models.specs.Reads.{cas_register_reads};
@@ -6,7 +6,7 @@ ghost use Rattle.models.specs.Reads.{cas_register_reads};
 use models::{CasRegister, Found, Op, SeqObject};
 use std::alloc::{AllocError, Global};
 
-/// A [`CasRegister`], by the same table: only what is counted against a budget differs.
+/// A [`CasRegister`] with the same table. Only its budget counts something else.
 pub struct WideCasRegister;
 
 impl SeqObject for WideCasRegister {

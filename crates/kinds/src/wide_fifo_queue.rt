@@ -1,4 +1,4 @@
-//! The wide queue: only equal values are counted.
+//! The wide queue: its budget counts only equal values.
 ghost use Rattle.std.specs.Prelude.{[]};
 ghost use Rattle.values.specs.Comparisons.{ints_eq-exact};
 ghost use Rattle.models.specs.Reads.{queue_reads};
@@ -7,7 +7,7 @@ use models::{FifoQueue, Found, Op, SeqObject};
 use std::alloc::{AllocError, Global};
 use values::Items;
 
-/// A [`FifoQueue`], by the same table: only what is counted against a budget differs.
+/// A [`FifoQueue`] with the same table. Only its budget counts something else.
 pub struct WideFifoQueue;
 
 impl SeqObject for WideFifoQueue {

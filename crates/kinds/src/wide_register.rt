@@ -1,4 +1,4 @@
-//! The register whose lean ends are counted.
+//! The wide register: its budget counts lean ends.
 ghost use Rattle.std.specs.Prelude.{None};
 ghost use Rattle.values.specs.Comparisons.{option_eq-exact};
 ghost use Rattle.models.specs.Reads.{register_reads};
@@ -6,7 +6,7 @@ ghost use Rattle.models.specs.Reads.{register_reads};
 use models::{Found, Op, Register, SeqObject};
 use std::alloc::{AllocError, Global};
 
-/// A [`Register`], by the same table: only what is counted against a budget differs.
+/// A [`Register`] with the same table. Only its budget counts something else.
 pub struct WideRegister;
 
 impl SeqObject for WideRegister {

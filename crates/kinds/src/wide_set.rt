@@ -1,4 +1,4 @@
-//! The wide set: nothing is counted.
+//! The wide set: its budget counts nothing.
 ghost use Rattle.std.specs.Prelude.{[]};
 ghost use Rattle.values.specs.Comparisons.{ints_eq-exact};
 ghost use Rattle.models.specs.Reads.{set_reads};
@@ -7,7 +7,7 @@ use models::{Found, Op, SeqObject, Set};
 use std::alloc::{AllocError, Global};
 use values::Spans;
 
-/// A [`Set`], by the same table: only what is counted against a budget differs.
+/// A [`Set`] with the same table. Only its budget counts something else.
 pub struct WideSet;
 
 impl SeqObject for WideSet {

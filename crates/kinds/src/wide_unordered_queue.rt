@@ -1,4 +1,4 @@
-//! The wide queue without an order: nothing is counted.
+//! The wide unordered queue: its budget counts nothing.
 ghost use Rattle.std.specs.Prelude.{[]};
 ghost use Rattle.values.specs.Comparisons.{ints_eq-exact};
 ghost use Rattle.models.specs.Reads.{unordered_reads};
@@ -7,7 +7,7 @@ use models::{Found, Op, SeqObject, UnorderedQueue};
 use std::alloc::{AllocError, Global};
 use values::Multiset;
 
-/// A [`UnorderedQueue`], by the same table: only what is counted against a budget differs.
+/// An [`UnorderedQueue`] with the same table. Only its budget counts something else.
 pub struct WideUnorderedQueue;
 
 impl SeqObject for WideUnorderedQueue {

@@ -3,7 +3,7 @@ use Rattle.std.proofs.Common.{◌≡◌, ℕ, ℤ, ◌⊎◌, inl, inr, ⊎_elim
 use Rattle.std.specs.List.{Contains}
 use Rattle.std.proofs.lemmas.List.Elements.{Contains-append_right, Contains-append_cases}
 use Rattle.models.specs.declared.operation.Name.{Name}
-use Rattle.models.specs.declared.operation.Name.TheVariants.{Read, Write, Cas, Acquire, Release, Enqueue, Dequeue, Add}
+use Rattle.models.specs.declared.operation.Name.TheVariants.{Read, Write, Cas, Acquire, Release, Enqueue, Dequeue, Add, Own}
 use Rattle.models.specs.declared.operation.Part.{Part}
 use Rattle.models.specs.declared.operation.Part.TheVariants.{Nil, Int, Pair, Set}
 use Rattle.models.specs.declared.operation.Op.{Op}
@@ -37,6 +37,7 @@ sort_by Release part = other_name Release part (λ e. cc) (λ e. cc)
 sort_by Enqueue part = other_name Enqueue part (λ e. cc) (λ e. cc)
 sort_by Dequeue part = other_name Dequeue part (λ e. cc) (λ e. cc)
 sort_by Add part = other_name Add part (λ e. cc) (λ e. cc)
+sort_by (Own number) part = other_name (Own number) part (λ e. cc) (λ e. cc)
 
 pub sort_of : (op : Op) → Sort op.name op.part
 sort_of op = sort_by op.name op.part

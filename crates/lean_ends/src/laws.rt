@@ -1,4 +1,4 @@
-//! Laws of lean ends.
+//! Laws about lean ends.
 ghost use Rattle.std.specs.Prelude.{◌≡◌, ◌↔◌, ℕ, List, ◌∷◌, ◌++◌, [], length};
 ghost use Rattle.std.specs.List.{Contains};
 ghost use Rattle.models.specs.Objects.{register};
@@ -8,8 +8,8 @@ ghost use Rattle.linspec.specs.Orders.{IsLinearizable};
 ghost use Rattle.linspec.specs.Verdicts.{EndsShortestBadPrefix};
 ghost use Rattle.linspec.specs.LeanEnds.{LeanEnd, IsLeanEnd, AreLeanEnds, HasMoreLeanEnds};
 
-/// A history of a register is linearizable exactly if it has a lean end. Nothing is lost if ends that are at most another one are left out at
-/// each event.
+/// A history of a register is linearizable if and only if it has a lean end. This stays true if each event drops the ends that are at most
+/// another end.
 pub fn lean_law()
     ensures some { (marks : List Mark) → AreWellFormed marks
         → IsLinearizable register marks ↔ ((e : LeanEnd) × IsLeanEnd marks e) }
@@ -17,14 +17,15 @@ pub fn lean_law()
         → IsLinearizable register marks ↔ ((e : LeanEnd) × Contains ends e) }
 {}
 
-/// The number of lean ends of a history does not depend on how they are found, and a history that has more than n of them is linearizable.
+/// The number of lean ends of a history does not depend on the way in which they are found. A history with more than n lean ends is
+/// linearizable.
 pub fn count_law()
     ensures one { (marks : List Mark) (ends others : List LeanEnd) → AreLeanEnds marks ends → AreLeanEnds marks others
         → length ends ≡ length others }
     ensures order { (marks : List Mark) (n : ℕ) → HasMoreLeanEnds marks n → IsLinearizable register marks }
 {}
 
-/// The history of a register becomes illegal at the event that leaves none of its lean ends.
+/// The history of a register becomes illegal at the event after which it has no lean end.
 pub fn illegal_at_law()
     ensures { (entries : List Entry) (last : Entry) → AreWellFormed (marks entries)
         → EndsShortestBadPrefix register entries last

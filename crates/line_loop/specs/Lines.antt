@@ -5,11 +5,11 @@ use Rattle.std.specs.Prelude.{◌≡◌, ◌≢◌, ℕ, List, [], ◌∷◌, �
 abbrev pub ended : List ℕ → List ℕ
 ended line = line ++ 10 ∷ []
 
--- bytes without a line feed
+-- the bytes contain no line feed
 abbrev pub IsLine : List ℕ → Type 0
 IsLine line = All (λ b. b ≢ 10) line
 
--- the input is these lines, each with its line feed, and then a rest without one
+-- the input consists of these lines, each with its line feed, and a rest without a line feed
 pub record Cuts (input : List ℕ) (lines : List (List ℕ)) (rest : List ℕ) : Type 0 where
   pub whole : input ≡ flat_map ended lines ++ rest
   pub each : All IsLine lines

@@ -1,4 +1,4 @@
--- Promise: the line that says why something was refused
+-- Promise: the line of a refusal
 use Rattle.std.specs.Prelude.{ℕ, List, [], ◌∷◌, ◌++◌, codes, decimal}
 use Rattle.edn.specs.declared.refusal.Refusal.{Refusal}
 use Rattle.edn.specs.declared.refusal.Refusal.TheVariants.{Unreadable}
@@ -9,7 +9,7 @@ abbrev pub line_of : List (List ℕ) → List ℕ
 line_of [] = 10 ∷ []
 line_of (part ∷ parts) = part ++ line_of parts
 
--- the place that an unreadable text's refusal names; no other refusal names one
+-- the place in the refusal of an unreadable text; no other refusal has one
 abbrev pub place_text : Refusal → List ℕ
 place_text (Unreadable place) = codes " " ++ decimal place
 place_text _ = []

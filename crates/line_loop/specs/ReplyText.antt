@@ -2,12 +2,12 @@
 use Rattle.std.specs.Prelude.{◌≡◌, ℕ, List, [], ◌∷◌, ◌++◌}
 use Rattle.line_loop.specs.Lines.{Cuts, last_line}
 
--- bytes of a line at most, its line feed not counted
+-- the maximum number of bytes of a line, without its line feed
 abbrev pub line_limit : ℕ
 line_limit = 65536
 
 module _ {S : Type 0} (may_reply : S → List ℕ → List ℕ → S → Type 0) where
-  -- the lines in turn may be answered by this text
+  -- this text may answer the lines, one after another
   abbrev pub Replies : S → List (List ℕ) → List ℕ → S → Type 0
   Replies old [] text new = (text ≡ []) × (new ≡ old)
   Replies old (line ∷ lines) text new = (mid : S) × (first : List ℕ) × (others : List ℕ) × may_reply old line first mid × Replies mid lines others new × (text ≡ first ++ others)

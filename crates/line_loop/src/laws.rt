@@ -5,14 +5,14 @@ ghost use Rattle.line_loop.specs.ReplyText.{IsReplyText};
 
 use crate::line_machine::LineMachine;
 
-/// An input is cut into lines in one way.
+/// There is only one way to cut an input into lines.
 pub fn one_cut()
     ensures { (input : List ℕ) (lines : List (List ℕ)) (rest : List ℕ)
         (others : List (List ℕ)) (other : List ℕ) →
         Cuts input lines rest → Cuts input others other → (lines ≡ others) × (rest ≡ other) }
 {}
 
-/// Where state and line determine a machine's reply and its state after it, an input has one reply text at most.
+/// An input has at most one reply text, if a line and the state before it determine a machine's reply and next state.
 pub fn one_reply_text<M: LineMachine>()
     requires { (old : M.State) (line text other : List ℕ) (new next : M.State) →
         M.may_reply old line text new → M.may_reply old line other next →

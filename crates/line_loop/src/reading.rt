@@ -1,5 +1,5 @@
-//! What a reader has.
-ghost use Rattle.std.specs.Prelude.{◌≡◌, ◌<◌, ◌≤◌, ℕ, List, [], take, length, IfOk, OnOk, OnErr, IfErr, true, false, Ok};
+//! Reads of a reader.
+ghost use Rattle.std.specs.Prelude.{◌≡◌, ◌<◌, ◌≤◌, ◌++◌, ℕ, List, [], take, length, IfOk, OnOk, OnErr, IfErr, true, false, Ok};
 ghost use Rattle.std.specs.Io.KnownBytes.{Consumes, IsAtEnd};
 ghost use Rattle.line_loop.specs.Logs.{KeepsRead};
 ghost use Rattle.line_loop.specs.Stopping.{MayStopReading};
@@ -10,16 +10,16 @@ use std::alloc::Global;
 use std::io::{Read, Write};
 use std::sync::Wait;
 
-/// Bytes of one read at most.
+/// The maximum number of bytes of one read.
 pub(crate) const PIECE: usize = 8192;
 
-/// What one read brought.
+/// The result of one read.
 pub(crate) enum Brought {
     Piece(usize),
     End,
 }
 
-// One read. An error after which `failed()` is still false counts as 0 bytes.
+// Reads once. An error after which `failed()` is still false counts as a read of 0 bytes.
 fn read_some<R: Read + Failed>(reader: &mut R, piece: &mut [u8]) -> Result<Brought, Refusal>
     requires { 0 < length piece.old }
     ensures bound { (n : ℕ) → result ≡ Ok (Brought.Piece n) → n ≤ length piece.new }
@@ -49,7 +49,8 @@ fn read_some<R: Read + Failed>(reader: &mut R, piece: &mut [u8]) -> Result<Broug
     }
 }
 
-/// One read of a reader that has not failed, with a writer in this state. An error after which `failed()` is still false counts as 0 bytes.
+/// Reads once, while the log of the reader notes the state of `writer`. The reader has not failed before. An error after which `failed()`
+/// is still false counts as a read of 0 bytes.
 pub(crate) fn read_with_writer<R: ReadsWithWriter<W>, W: Write + Flushes>(
     reader: &mut R,
     writer: &W,
@@ -86,7 +87,7 @@ pub(crate) fn read_with_writer<R: ReadsWithWriter<W>, W: Write + Flushes>(
     }
 }
 
-// The refusal when memory is refused: that the reader has failed, if it has.
+// Returns the refusal after a failed allocation: `ReadFailed` if the reader has failed, otherwise `NoMemory`.
 fn want_of_memory<R: Failed>(reader: &R) -> Refusal
     ensures { MayStopReading result (R.has_failed reader.now) }
 {
@@ -97,11 +98,71 @@ fn want_of_memory<R: Failed>(reader: &R) -> Refusal
     }
 }
 
-/// All that the reader has, read to its end in pieces of 8,192 bytes. It costs O(bytes), and memory for them.
+// Reads once, and appends the bytes. Returns whether the reader is at its end.
+fn append_some<R: Read + Failed>(
+    reader: &mut R,
+    piece: &mut [u8],
+    held: &mut Vec<u8>,
+) -> Result<bool, Refusal>
+    requires { 0 < length piece.old }
+    ensures bytes { OnOk result ((further : List ℕ)
+        × (held.new.items ≡ held.old.items ++ further)
+        × Consumes (R.remaining reader.old) (R.remaining reader.new) further) }
+    ensures end { IfOk result (λ has_ended. has_ended ≡ true → IsAtEnd (R.remaining reader.new)
+        × (R.has_failed reader.new ≡ false)) }
+    ensures some { OnErr result ((seen : List ℕ)
+        × Consumes (R.remaining reader.old) (R.remaining reader.new) seen) }
+    ensures cause { IfErr result (λ e. MayStopReading e (R.has_failed reader.new)) }
+{
+    match read_some(reader, piece)? {
+        Brought::Piece(n) => {
+            if held.extend_from_slice(&piece[..n]).is_err() {
+                return Err(want_of_memory(reader));
+            }
+            Ok(false)
+        }
+        Brought::End => Ok(true),
+    }
+}
+
+/// Reads until at least `len` bytes are held, in pieces of 8,192 bytes, and appends them. Returns whether the reader is at its end. Costs
+/// O(bytes) time and memory.
 ///
 /// # Errors
 ///
-/// `ReadFailed` if the reader has failed, and else `NoMemory` if memory is refused. Some of the bytes were then read.
+/// `ReadFailed` if the reader has failed, otherwise `NoMemory` if an allocation fails. Some further bytes may have been read then.
+pub fn read_up_to<X: Wait, R: Read + Failed>(
+    rt: &X,
+    reader: &mut R,
+    held: &mut Vec<u8>,
+    len: usize,
+) -> Result<bool, Refusal>
+    ensures bytes { OnOk result ((further : List ℕ)
+        × (held.new.items ≡ held.old.items ++ further)
+        × Consumes (R.remaining reader.old) (R.remaining reader.new) further) }
+    ensures end { IfOk result (λ has_ended. has_ended ≡ true → IsAtEnd (R.remaining reader.new)
+        × (R.has_failed reader.new ≡ false)) }
+    ensures some { OnErr result ((seen : List ℕ)
+        × Consumes (R.remaining reader.old) (R.remaining reader.new) seen) }
+    ensures cause { IfErr result (λ e. MayStopReading e (R.has_failed reader.new)) }
+{
+    let mut piece = [0u8; PIECE];
+    for _ in rt.forever() {
+        if held.len() >= len {
+            return Ok(false);
+        }
+        if append_some(reader, &mut piece[..], held)? {
+            return Ok(true);
+        }
+    }
+    unreachable!()
+}
+
+/// Reads all bytes of the reader, in pieces of 8,192 bytes. Costs O(bytes) time and memory.
+///
+/// # Errors
+///
+/// `ReadFailed` if the reader has failed, otherwise `NoMemory` if an allocation fails. Some of the bytes may have been read then.
 pub fn read_whole<X: Wait, R: Read + Failed>(
     rt: &X,
     alloc: Global,
@@ -118,13 +179,8 @@ pub fn read_whole<X: Wait, R: Read + Failed>(
     let mut bytes = Vec::new(alloc);
     let mut piece = [0u8; PIECE];
     for _ in rt.forever() {
-        match read_some(reader, &mut piece[..])? {
-            Brought::Piece(n) => {
-                if bytes.extend_from_slice(&piece[..n]).is_err() {
-                    return Err(want_of_memory(reader));
-                }
-            }
-            Brought::End => return Ok(bytes),
+        if append_some(reader, &mut piece[..], &mut bytes)? {
+            return Ok(bytes);
         }
     }
     unreachable!()

@@ -1,15 +1,15 @@
-//! The line that says why something was refused.
+//! The line that reports a refusal.
 ghost use Rattle.std.specs.Prelude.{◌≡◌, ◌++◌, IfOk, OnOk, OnErr, string_bytes};
 ghost use Rattle.line_loop.specs.RefusalLine.{refusal_line, place_text};
 
 use edn::Refusal;
 use std::alloc::{AllocError, Global};
 
-/// The line of a refusal with its line feed, as `refused 5 BadValue` or `refused 11 Unreadable 4`. It takes constant time.
+/// Returns the line of a refusal with its line feed, such as `refused 5 BadValue` or `refused 11 Unreadable 4`. Takes constant time.
 ///
 /// # Errors
 ///
-/// Where memory is refused.
+/// [`AllocError`] if an allocation fails.
 pub fn refusal_text(alloc: Global, refusal: &Refusal) -> Result<String, AllocError>
     ensures { IfOk result (λ text. string_bytes text ≡ refusal_line refusal.now) }
 {
@@ -19,11 +19,12 @@ pub fn refusal_text(alloc: Global, refusal: &Refusal) -> Result<String, AllocErr
     format!(in alloc; "refused {number} {name}{place}\n")
 }
 
-/// The place that an unreadable text's refusal names, after a space; no other refusal names one. It takes constant time.
+/// Returns a space and the place that the refusal of an unreadable text names. The text is empty for every other refusal. Takes constant
+/// time.
 ///
 /// # Errors
 ///
-/// Where memory is refused.
+/// [`AllocError`] if an allocation fails.
 pub fn place_text(alloc: Global, refusal: &Refusal) -> Result<String, AllocError>
     ensures { IfOk result (λ text. string_bytes text ≡ place_text refusal.now) }
 {
@@ -33,11 +34,11 @@ pub fn place_text(alloc: Global, refusal: &Refusal) -> Result<String, AllocError
     }
 }
 
-/// Appends the line of a refusal to a reply. It takes constant time, but if the reply's memory grows.
+/// Appends the line of a refusal to a reply. Takes constant time unless the reply's memory grows.
 ///
 /// # Errors
 ///
-/// Where memory is refused, and then the reply is as it was.
+/// [`AllocError`] if an allocation fails; the reply is then as it was.
 pub fn append_refusal(
     alloc: Global,
     reply: &mut Vec<u8>,

@@ -1,4 +1,4 @@
-//! The state between two reads.
+//! The state of the loop between two reads.
 ghost use Rattle.std.specs.Prelude.{◌≡◌, ◌+◌, ◌-◌, ◌<◌, ℕ, List, [], ◌++◌, take, length, Option, OnOk, OnErr, IfErr, IfSome, IfNone, true, false};
 ghost use Rattle.line_loop.specs.Lines.{IsLine, ended};
 ghost use Rattle.line_loop.specs.BetweenReads.{Reading, between, MayStopWriting, IsAnsweredFor, LineIsAnswered, GoesOn, StopsIn, Ends, StopsAtEnd};
@@ -14,11 +14,11 @@ use std::io::Write;
 use std::marker::Model;
 use std::sync::Wait;
 
-/// Bytes of a line at most, its line feed not counted.
+/// The maximum number of bytes of a line, without its line feed.
 pub const LINE_LIMIT: usize = 65_536;
 
-/// A machine, the held part of the line that is being read, at most one byte over the limit, and the unwritten replies: none between two
-/// reads.
+/// A machine, the bytes of the unfinished line (at most one byte over the limit), and the replies that are not written yet. Between two
+/// reads there are no such replies.
 #[derive(Drop)]
 pub struct Session<M: LineMachine> {
     machine: M,
@@ -38,7 +38,7 @@ impl<M: LineMachine> Model for Session<M> {
 }
 
 impl<M: LineMachine> Session<M> {
-    /// A machine that has read nothing of its input yet.
+    /// Returns a session with a machine that has read none of its input.
     pub fn new(alloc: Global, machine: M) -> Session<M>
         ensures machine { result.machine ≡ machine }
         ensures held { result.held ≡ [] }
@@ -52,27 +52,27 @@ impl<M: LineMachine> Session<M> {
         }
     }
 
-    /// The machine's verdict.
+    /// Returns the machine's verdict.
     pub fn verdict(&self) -> M::Verdict
         ensures { M.shows (M.state self.now.machine) result }
     {
         self.machine.verdict()
     }
 
-    /// Whether the machine is closed.
+    /// Returns whether the machine is closed.
     pub fn closed(&self) -> bool
         ensures { result ≡ M.is_closed (M.state self.now.machine) }
     {
         self.machine.closed()
     }
 
-    /// Takes a piece of the input: answers each line that ends in it, writes the replies together and flushes them, and holds the rest
-    /// after the last line.
+    /// Takes a piece of the input: answers each line that ends in it, writes all replies at once and flushes them. Holds the bytes after
+    /// the last line feed.
     ///
     /// # Errors
     ///
-    /// `WriteFailed`, if the writer has failed, and else `NoMemory`, after the replies that were made have been written
-    /// and flushed.
+    /// `WriteFailed` if the writer has failed, otherwise `NoMemory`. Before it returns `NoMemory`, it writes and flushes the replies that
+    /// were made.
     pub fn take_piece<X: Wait, W: Write + Failed + Flushes>(
         &mut self,
         rt: &X,
@@ -95,7 +95,7 @@ impl<M: LineMachine> Session<M> {
         answered
     }
 
-    // Answers each line that ends in this piece, and holds what follows the last of them.
+    // Answers each line that ends in `piece`, and holds the bytes after the last of these lines.
     fn answer_piece(&mut self, piece: &[u8]) -> Result<(), Refusal>
         ensures ok { OnOk result ((written : Option (List ℕ)) → GoesOn M.may_reply piece.now
             (between M.state self.old written) (between M.state self.new written)) }
@@ -111,7 +111,7 @@ impl<M: LineMachine> Session<M> {
         self.hold(rest)
     }
 
-    // Takes the bytes before a line feed, and answers the line that they end.
+    // Adds the bytes before a line feed to the held ones, and answers the line that they complete.
     fn answer_front(&mut self, front: &[u8]) -> Result<(), Refusal>
         requires { IsLine front.now }
         ensures ok { OnOk result ((written : Option (List ℕ)) → GoesOn M.may_reply (ended front.now)
@@ -126,7 +126,7 @@ impl<M: LineMachine> Session<M> {
         self.answer_held()
     }
 
-    // Holds these further bytes of the line, up to one byte over the limit.
+    // Holds further bytes of the line, up to one byte over the limit.
     fn hold(&mut self, bytes: &[u8]) -> Result<(), Refusal>
         requires { IsLine bytes.now }
         ensures ok { OnOk result ((written : Option (List ℕ)) → GoesOn M.may_reply bytes.now
@@ -138,7 +138,7 @@ impl<M: LineMachine> Session<M> {
         Ok(())
     }
 
-    // Answers the line that is held, and begins another.
+    // Answers the held line, and begins a new one.
     fn answer_held(&mut self) -> Result<(), Refusal>
         ensures ok { OnOk result ((written : Option (List ℕ)) → LineIsAnswered M.may_reply
             (between M.state self.old written) (between M.state self.new written)) }
@@ -151,7 +151,7 @@ impl<M: LineMachine> Session<M> {
         Ok(())
     }
 
-    // Answers a line that is whole in the piece, without a copy. No part of it is held from earlier pieces.
+    // Answers a line that is contained completely in the piece, without a copy. No bytes of it are held.
     fn answer_whole(&mut self, line: &[u8]) -> Result<(), Refusal>
         requires line { IsLine line.now }
         requires none { self.old.held ≡ [] }
@@ -165,7 +165,7 @@ impl<M: LineMachine> Session<M> {
         Ok(())
     }
 
-    // Writes the replies, and flushes.
+    // Writes the replies, and flushes the writer.
     fn write_replies<X: Wait, W: Write + Failed + Flushes>(
         &mut self,
         rt: &X,
@@ -187,7 +187,7 @@ impl<M: LineMachine> Session<M> {
         flush_all(rt, writer)
     }
 
-    /// Answers a last line without a line feed, writes its reply, and flushes.
+    /// Answers a last line without a line feed, writes its reply, and flushes the writer.
     ///
     /// # Errors
     ///
@@ -226,7 +226,7 @@ impl<M: LineMachine> Session<M> {
         self.answer_held()
     }
 
-    // Whether no byte of a line is held.
+    // Returns whether no byte of a line is held.
     fn holds_nothing(&self) -> bool
         ensures none { result ≡ true → self.now.held ≡ [] }
         ensures some { result ≡ false → 0 < length self.now.held }
@@ -235,7 +235,7 @@ impl<M: LineMachine> Session<M> {
     }
 }
 
-// The bytes before the first line feed, and those after it.
+// Returns the bytes before the first line feed and the bytes after it, or `None` if there is no line feed.
 fn split_at_feed(bytes: &[u8]) -> Option<(&[u8], &[u8])>
     ensures front { IfSome result (λ parts. IsLine parts.0.now) }
     ensures whole { IfSome result (λ parts. bytes.now ≡ ended parts.0.now ++ parts.1.now) }
@@ -245,7 +245,7 @@ fn split_at_feed(bytes: &[u8]) -> Option<(&[u8], &[u8])>
     Some((&bytes[..at], &bytes[at + 1..]))
 }
 
-// Appends the bytes to those that are held, as far as `most` in all.
+// Appends `bytes` to `held`, until `held` has `most` bytes.
 fn append_up_to(held: &mut Vec<u8>, bytes: &[u8], most: usize) -> Result<(), AllocError>
     ensures { OnOk result (held.new.items ≡
         held.old.items ++ take (most - length held.old.items) bytes.now) }
@@ -254,7 +254,7 @@ fn append_up_to(held: &mut Vec<u8>, bytes: &[u8], most: usize) -> Result<(), All
     held.extend_from_slice(&bytes[..room.min(bytes.len())])
 }
 
-// Makes the reply to a line.
+// Makes the machine's reply to a line of any length.
 fn make_reply<M: LineMachine>(
     machine: &mut M,
     line: &[u8],

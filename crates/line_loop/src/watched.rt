@@ -1,4 +1,4 @@
-//! Readers and writers that report whether they have failed, and whether the written bytes are flushed.
+//! Readers and writers that report whether they have failed, and whether all written bytes are flushed.
 ghost use Rattle.std.specs.Prelude.{◌≡◌, ◌<◌, Bool, true, false, List, length, Option, None, IfOk, OnOk, OnErr, Ok};
 ghost use Rattle.std.specs.Io.{ReadsAtMost, WritesAtMost};
 ghost use Rattle.std.specs.Io.KnownBytes.{ReadConsumes, WriteAppends, Keeps};
@@ -9,34 +9,34 @@ use std::io;
 use std::io::{Read, Write};
 use std::marker::Model;
 
-/// Tells whether a reader or a writer has failed: true from its first error on, or from its first write of some bytes
+/// Reports whether a reader or a writer has failed. It has failed from its first error on, or from its first write of at least one byte
 /// that took none.
 pub trait Failed {
     ghost has_failed: { Self → Bool };
 
-    /// Whether it has failed by now.
+    /// Returns whether the reader or writer has failed so far.
     fn failed(&self) -> bool
         ensures { result ≡ has_failed self.now };
 }
 
-/// Tells whether what was written to a writer is flushed: a write makes it false, and a flush without an error true.
+/// Reports whether a writer has flushed all bytes that it took. A write makes this false, and a flush without an error makes it true.
 pub trait Flushes {
     ghost is_flushed: { Self → Bool };
 
-    /// Whether all that was written is flushed.
+    /// Returns whether all written bytes are flushed.
     fn flushed(&self) -> bool
         ensures { result ≡ is_flushed self.now };
 }
 
-/// A reader whose log has each read together with the state of the writer that answers it.
+/// A reader with a log. The log has each read, together with the state of the writer of the replies.
 ///
-/// A clause over its log says that no reply is held back: the log has the writer's bytes at each read. The clause holds for any such
-/// reader, since the reading code knows nothing else of it.
+/// A clause about the log says that no reply is held back: at each read the log has the writer's bytes. The clause holds for any such
+/// reader, since the reading code knows nothing else about it.
 pub trait ReadsWithWriter<W: Write + Flushes>: Read + Failed {
-    // The result of each read, in turn, if it is known.
+    // The results of the reads in order, if they are known.
     ghost log: { Self → Option (List Logged) } = { λ _. None };
 
-    /// Reads as [`Read::read`] does. The log gets the state of the writer.
+    /// Reads like [`Read::read`]. Logs the state of the writer.
     ///
     /// # Errors
     ///
@@ -45,13 +45,13 @@ pub trait ReadsWithWriter<W: Write + Flushes>: Read + Failed {
         ensures bound { ReadsAtMost result buf.new }
         ensures bytes { ReadConsumes
             (Self.remaining self.old) (Self.remaining self.new) result buf.new }
-        // The log gets what the writer holds, and the bytes that were read.
+        // The log gets the bytes of the writer, and the bytes that were read.
         ensures kept { KeepsRead (log self.old) (log self.new)
             (W.contents writer.now) (W.is_flushed writer.now) (bytes_read result buf.new) }
         ensures well { OnOk result (Self.has_failed self.new ≡ Self.has_failed self.old) };
 }
 
-/// Any reader or writer, watched from when it was wrapped.
+/// A reader or a writer that is watched since it was wrapped.
 #[derive(Drop)]
 pub struct Watched<T> {
     inner: T,
@@ -70,7 +70,7 @@ impl<T> Model for Watched<T> {
 }
 
 impl<T> Watched<T> {
-    /// Watches it from now on: nothing is written yet that is not flushed.
+    /// Returns `inner`, watched from now on. No error and no unflushed write counts before this call.
     pub fn new(inner: T) -> Watched<T>
         ensures fresh { result.has_failed ≡ false }
         ensures flushed { result.is_flushed ≡ true }
@@ -83,14 +83,14 @@ impl<T> Watched<T> {
         }
     }
 
-    /// What is watched.
+    /// Returns the watched reader or writer.
     pub fn inner(&self) -> &T
         ensures { result.now ≡ self.now.inner }
     {
         &self.inner
     }
 
-    /// Watches no longer.
+    /// Returns the reader or writer, which is then watched no longer.
     pub fn into_inner(self) -> T
         ensures { result ≡ self.inner }
     {

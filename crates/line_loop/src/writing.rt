@@ -1,4 +1,4 @@
-//! Whole texts to a writer.
+//! Writes of whole texts.
 ghost use Rattle.std.specs.Prelude.{◌≡◌, ◌≤◌, ℕ, List, [], take, length, ◌++◌, IfOk, OnOk, OnErr, IfErr, true, false};
 ghost use Rattle.std.specs.Io.KnownBytes.{Appends};
 
@@ -7,7 +7,7 @@ use edn::Refusal;
 use std::io::Write;
 use std::sync::Wait;
 
-// One write. An error after which `failed()` is still false counts as 0 bytes.
+// Writes once. An error after which `failed()` is still false counts as a write of 0 bytes.
 fn write_some<W: Write + Failed>(writer: &mut W, text: &[u8]) -> Result<usize, Refusal>
     ensures bound { IfOk result (λ n. n ≤ length text.now) }
     ensures ok { IfOk result (λ n.
@@ -27,11 +27,11 @@ fn write_some<W: Write + Failed>(writer: &mut W, text: &[u8]) -> Result<usize, R
     }
 }
 
-/// Writes all of the text. After an error that leaves `failed()` false it writes again.
+/// Writes all of the text. Tries again after an error that leaves `failed()` false.
 ///
 /// # Errors
 ///
-/// `WriteFailed`, if the writer has failed. It has then taken a beginning of the text.
+/// `WriteFailed` if the writer has failed. It has then taken a prefix of the text.
 pub fn write_text<X: Wait, W: Write + Failed>(
     rt: &X,
     writer: &mut W,
@@ -53,12 +53,11 @@ pub fn write_text<X: Wait, W: Write + Failed>(
     unreachable!()
 }
 
-/// Flushes a writer to which something was written since it was last flushed. After an error that leaves `failed()` false it
-/// flushes again.
+/// Flushes a writer that took bytes since its last flush. Tries again after an error that leaves `failed()` false.
 ///
 /// # Errors
 ///
-/// `WriteFailed`, if the writer has failed, in this flush or before.
+/// `WriteFailed` if the writer has failed, in this flush or before.
 pub fn flush_all<X: Wait, W: Write + Failed + Flushes>(
     rt: &X,
     writer: &mut W,
@@ -76,7 +75,7 @@ pub fn flush_all<X: Wait, W: Write + Failed + Flushes>(
         if writer.flushed() {
             return Ok(());
         }
-        // `failed()` reports its error.
+        // `failed()` reports the error.
         let _ = writer.flush();
     }
     unreachable!()

@@ -3,7 +3,7 @@ use Rattle.std.proofs.Common.{◌≡◌, ℕ, ◌+◌, List, [], ◌∷◌, leng
 use Rattle.std.specs.List.{Contains}
 use Rattle.models.specs.Objects.{Object}
 use Rattle.kinds.specs.declared.model_kind.ModelKind.{ModelKind}
-use Rattle.kinds.specs.declared.model_kind.ModelKind.TheVariants.{Register, CasRegister, Mutex, FifoQueue, Set, UnorderedQueue, WideRegister, WideCasRegister, WideSet, WideFifoQueue, WideUnorderedQueue}
+use Rattle.kinds.specs.declared.model_kind.ModelKind.TheVariants.{Register, CasRegister, Mutex, FifoQueue, Set, UnorderedQueue, WideRegister, WideCasRegister, WideSet, WideFifoQueue, WideUnorderedQueue, Own}
 use Rattle.kinds.specs.Kinds.{object_of}
 use Rattle.events.specs.Events.{Mark}
 use Rattle.linspec.specs.Orders.{IsLinearizable}
@@ -34,6 +34,7 @@ counted_order WideCasRegister = λ marks n h. h.0
 counted_order WideSet = λ marks n none. absurd none
 counted_order WideFifoQueue = λ marks n h. h.0
 counted_order WideUnorderedQueue = λ marks n none. absurd none
+counted_order (Own object) = some_order (object_of (Own object))
 
 -- no fewer are counted with crashed reads
 pub counted_with_reads : (kind : ModelKind) → CountsLess (CountsMoreThan kind) (CountsMoreThanWithReads kind)
@@ -48,3 +49,4 @@ counted_with_reads WideCasRegister = λ marks n h. h
 counted_with_reads WideSet = λ marks n none. absurd none
 counted_with_reads WideFifoQueue = λ marks n h. h
 counted_with_reads WideUnorderedQueue = λ marks n none. absurd none
+counted_with_reads (Own object) = less_with_reads (object_of (Own object))

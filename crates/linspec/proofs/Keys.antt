@@ -5,9 +5,9 @@ use Rattle.std.proofs.lemmas.Bool.{cases_eq, eq-eqb, ne_eqb}
 use Rattle.models.specs.declared.operation.Op.{Op}
 use Rattle.models.specs.declared.finding.Found.{Found}
 use Rattle.kinds.specs.declared.model_kind.ModelKind.{ModelKind}
-use Rattle.kinds.specs.declared.model_kind.ModelKind.TheVariants.{Register, CasRegister, Mutex, FifoQueue, Set, UnorderedQueue, WideRegister, WideCasRegister, WideSet, WideFifoQueue, WideUnorderedQueue}
+use Rattle.kinds.specs.declared.model_kind.ModelKind.TheVariants.{Register, CasRegister, Mutex, FifoQueue, Set, UnorderedQueue, WideRegister, WideCasRegister, WideSet, WideFifoQueue, WideUnorderedQueue, Own}
 use Rattle.kinds.specs.declared.any_state.AnyState.{AnyState}
-use Rattle.kinds.specs.declared.any_state.AnyState.TheVariants.{Register as OfRegister, CasRegister as OfCasRegister, Mutex as OfMutex, FifoQueue as OfFifoQueue, Set as OfSet, UnorderedQueue as OfUnorderedQueue, WideRegister as OfWideRegister, WideCasRegister as OfWideCasRegister, WideSet as OfWideSet, WideFifoQueue as OfWideFifoQueue, WideUnorderedQueue as OfWideUnorderedQueue}
+use Rattle.kinds.specs.declared.any_state.AnyState.TheVariants.{Register as OfRegister, CasRegister as OfCasRegister, Mutex as OfMutex, FifoQueue as OfFifoQueue, Set as OfSet, UnorderedQueue as OfUnorderedQueue, WideRegister as OfWideRegister, WideCasRegister as OfWideCasRegister, WideSet as OfWideSet, WideFifoQueue as OfWideFifoQueue, WideUnorderedQueue as OfWideUnorderedQueue, Own as OfOwn}
 use Rattle.kinds.specs.AnyState.{any}
 use Rattle.kinds.specs.Kinds.{object_of}
 use Rattle.events.specs.Events.{Mark}
@@ -80,6 +80,10 @@ any_step WideCasRegister WideCasRegister s u e op found v st = (v, same_steps (o
 any_step WideSet WideSet s u e op found v st = (v, same_steps (object_of WideSet).State (object_of WideSet).Steps s u op found v (let q : s ≡ u = cc in q) st, refl)
 any_step WideFifoQueue WideFifoQueue s u e op found v st = (v, same_steps (object_of WideFifoQueue).State (object_of WideFifoQueue).Steps s u op found v (let q : s ≡ u = cc in q) st, refl)
 any_step WideUnorderedQueue WideUnorderedQueue s u e op found v st = (v, same_steps (object_of WideUnorderedQueue).State (object_of WideUnorderedQueue).Steps s u op found v (let q : s ≡ u = cc in q) st, refl)
+any_step (Own a) (Own b) s u e op found v st =
+    let p : a ≡ b = cc in
+    let q : s ≡ u = cc in
+    (v, subst (λ c. (object_of (Own c)).Steps s op found v) (sym p) (same_steps (object_of (Own b)).State (object_of (Own b)).Steps s u op found v q st), ap (λ c. any (Own c) v) (sym p))
 any_step _ _ s u e op found v st = cc
 
 pub any_kind : (a : AnyState) → (kind : ModelKind) × (s : (object_of kind).State) × (a ≡ any kind s)
@@ -94,6 +98,7 @@ any_kind (OfWideCasRegister s) = (WideCasRegister, s, refl)
 any_kind (OfWideSet s) = (WideSet, s, refl)
 any_kind (OfWideFifoQueue s) = (WideFifoQueue, s, refl)
 any_kind (OfWideUnorderedQueue s) = (WideUnorderedQueue, s, refl)
+any_kind (OfOwn object s) = (Own object, s, refl)
 
 module _ (kinds : ℕ → ModelKind) where
   -- each state that is kept is that of its key

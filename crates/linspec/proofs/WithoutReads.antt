@@ -3,7 +3,7 @@ use Rattle.std.proofs.Common.{◌≡◌, ◌≢◌, ℕ, ◌⊎◌, inl, inr, �
 use Rattle.std.specs.List.{filter, Contains}
 use Rattle.std.proofs.lemmas.Bool.{cases_Bool, true≢false}
 use Rattle.models.specs.declared.operation.Name.{Name}
-use Rattle.models.specs.declared.operation.Name.TheVariants.{Read, Write, Cas, Acquire, Release, Enqueue, Dequeue, Add}
+use Rattle.models.specs.declared.operation.Name.TheVariants.{Read, Write, Cas, Acquire, Release, Enqueue, Dequeue, Add, Own}
 use Rattle.models.specs.declared.operation.Op.{Op}
 use Rattle.models.specs.Objects.{Object, ReadsLeave}
 use Rattle.events.specs.Events.{Mark}
@@ -24,6 +24,7 @@ read_name Release e = absurd (true≢false e)
 read_name Enqueue e = absurd (true≢false e)
 read_name Dequeue e = absurd (true≢false e)
 read_name Add e = absurd (true≢false e)
+read_name (Own number) e = absurd (true≢false e)
 
 pub is_read : (op : Op) → is_no_read op ≡ false → op.name ≡ Read
 is_read op = read_name op.name

@@ -18,12 +18,12 @@ use Rattle.linspec.specs.Finishing.{MayStandAfter}
 abbrev pub Keyed : Type 0
 Keyed = ℕ × AnyState
 
--- the state that the list gives the key first
+-- the first state that the list has for the key
 abbrev pub state_at : List Keyed → ℕ → Option AnyState
 state_at [] key = None
 state_at (e ∷ states) key = if nat_eq e.0 key then Some e.1 else state_at states key
 
--- the states, but this one of the key
+-- the state of an entry after the key has got this state; `with_state`: the states of all keys then
 abbrev pub state_beside : ℕ → AnyState → Keyed → AnyState
 state_beside key state e = if nat_eq e.0 key then state else e.1
 
@@ -45,7 +45,7 @@ Steps states op found after =
     (a b : AnyState) × (state_at states op.key ≡ Some a) × StepsBy a op found b
     × (with_state states op.key b ≡ after)
 
--- one of the outcomes, each a state of the key and what was found, leaves these states
+-- one of the outcomes, each a state and an answer, has the answer `found`, and its state is the key's in `after`
 abbrev pub LeadTo : List Keyed → ℕ → List (AnyState × Found) → Found → List Keyed → Type 0
 LeadTo states key outcomes found after =
     (b : AnyState) × IsOneOf outcomes (b, found) × (with_state states key b ≡ after)
@@ -55,11 +55,11 @@ pub record AttemptView : Type 0 where
   pub taken : List ℕ
   pub states : List Keyed
 
--- the operation precedes one of these
+-- the operation precedes one of the taken operations
 abbrev pub PrecedesSome : List Mark → ℕ → List ℕ → Type 0
 PrecedesSome marks id taken = (y : ℕ) × Contains taken y × Precedes marks id y
 
--- the front with the operation, which may come next
+-- `after` is the front with the operation at its end, which may come next
 pub record FollowsBy (marks : List Mark) (front : AttemptView) (id : ℕ) (op : Op)
     (after : AttemptView) : Type 0 where
   pub stands : MayStandAfter marks front.taken id
@@ -68,7 +68,7 @@ pub record FollowsBy (marks : List Mark) (front : AttemptView) (id : ℕ) (op : 
   pub fits : (answer : Answer) → Contains marks (Returned id answer) → Fits found answer
   pub taken : front.taken ++ id ∷ [] ≡ after.taken
 
--- the front with the operation, by this outcome of it, and by one of these
+-- `after` is the front with the operation at its end, by this outcome; `MakesSome`: by one of the outcomes
 pub record Makes (marks : List Mark) (front : AttemptView) (id key : ℕ)
     (outcome : AnyState × Found) (after : AttemptView) : Type 0 where
   pub fits : (answer : Answer) → Contains marks (Returned id answer) → Fits outcome.1 answer
@@ -80,13 +80,13 @@ abbrev pub MakesSome : List Mark → AttemptView → ℕ → ℕ → List (AnySt
 MakesSome marks front id key outcomes after =
     (outcome : AnyState × Found) × Contains outcomes outcome × Makes marks front id key outcome after
 
--- the front with the operation that the mark invokes
+-- `after` is the front with the operation that the mark invokes
 abbrev pub Follows : List Mark → AttemptView → Mark → AttemptView → Type 0
 Follows marks front (Invoked id op) after = FollowsBy marks front id op after
 Follows marks front (Returned id answer) after = ⊥
 Follows marks front (Failed id) after = ⊥
 Follows marks front (Crashed id) after = ⊥
 
--- the front with an operation that one of these marks invokes
+-- `after` is the front with an operation that one of these marks invokes
 abbrev pub FollowsSome : List Mark → AttemptView → List Mark → AttemptView → Type 0
 FollowsSome marks front these after = (m : Mark) × Contains these m × Follows marks front m after

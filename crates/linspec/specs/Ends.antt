@@ -33,7 +33,7 @@ CountsIn counts marks id = (op : Op) × Contains marks (Invoked id op) × IsTrue
 abbrev pub HasCrashedBy : (Op → Bool) → List Mark → ℕ → Type 0
 HasCrashedBy counts marks id = Contains marks (Crashed id) × CountsIn counts marks id
 
--- the order leaves this end, where counts says which crashed operations count
+-- the order leaves the end e. `counts` says which crashed operations count
 pub record LeavesBy (counts : Op → Bool) (o : Object) (marks : List Mark) (order : List Taken)
     (e : End o.State) : Type 0 where
   pub legal : IsLegalOrder o marks order e.state
@@ -54,11 +54,11 @@ pub record HasMoreThanBy (counts : Op → Bool) (o : Object) (marks : List Mark)
   pub distinct : Pairwise (λ e f. e ≢ f) ends
   pub each : (e : End o.State) → Contains ends e → IsEndBy counts o marks e
 
--- a count: which histories it says to have more than n
+-- a count says which histories have more than n
 abbrev pub Count : Type 1
 Count = List Mark → ℕ → Type 0
 
--- at index i an ok event finds more than the budget just before it
+-- the event at index i is an ok, and the count just before it is more than the budget
 pub record IsBlownAtBy (more : Count) (budget : ℕ) (entries : List Entry) (i : ℕ) : Type 0 where
   pub before : List Entry
   pub event : Entry
@@ -68,19 +68,19 @@ pub record IsBlownAtBy (more : Count) (budget : ℕ) (entries : List Entry) (i :
   pub is_ok : (id : ℕ) × (answer : Answer) × (event.mark ≡ Returned id answer)
   pub many : more (marks before) budget
 
--- the index at which the budget is exceeded is the least such
+-- the index at which the budget is exceeded: the least such index
 pub record IsBlownIndexBy (more : Count) (budget : ℕ) (entries : List Entry) (i : ℕ) : Type 0 where
   pub blown : IsBlownAtBy more budget entries i
   pub least : (j : ℕ) → IsBlownAtBy more budget entries j → i ≤ j
 
--- the budget is exceeded if it is so at some ok event
+-- the budget is exceeded at some ok event
 abbrev pub IsBlownBy : Count → ℕ → List Entry → Type 0
 IsBlownBy more budget entries = (i : ℕ) × IsBlownAtBy more budget entries i
 
 abbrev pub IsWithinBudgetBy : Count → ℕ → List Entry → Type 0
 IsWithinBudgetBy more budget entries = (i : ℕ) → ¬ IsBlownAtBy more budget entries i
 
--- a crashed read decides nothing: it leaves the state as it was, and has no answer. Each other crashed operation counts
+-- whether an operation counts after a crash: a read does not, since it leaves the state as it was, and has no answer
 abbrev pub is_no_read_name : Name → Bool
 is_no_read_name Read = false
 is_no_read_name name = true
@@ -109,7 +109,7 @@ IsBlown o = IsBlownBy (HasMoreThan o)
 abbrev pub IsWithinBudget : Object → ℕ → List Entry → Type 0
 IsWithinBudget o = IsWithinBudgetBy (HasMoreThan o)
 
--- the same words with reads, where each crashed operation counts
+-- each crashed operation counts, also a read
 abbrev pub every : Op → Bool
 every op = true
 

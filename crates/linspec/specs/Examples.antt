@@ -1,4 +1,4 @@
--- Promise: histories that show what the definitions say
+-- Promise: example histories for the definitions
 use Rattle.std.specs.Prelude.{ℕ, ℤ, pos, nat_eq, if◌then◌else◌, None, List, [], ◌∷◌, ◌++◌}
 use Rattle.models.specs.declared.operation.Name.TheVariants.{Read, Write, Cas, Acquire, Enqueue}
 use Rattle.models.specs.declared.operation.Part.{Part}
@@ -36,7 +36,7 @@ event process kind op = record {
   body = AnOp op;
 }
 
--- the entries of a whole history, those of a key, and what these say of its operations
+-- the entries of a history, the entries of one key, and their marks
 abbrev pub all_entries : List Event → List Entry
 all_entries events = entries_of (indexed_from 0 events)
 
@@ -46,7 +46,7 @@ key_entries key events = of_key key (all_entries events)
 abbrev pub key_marks : ℕ → List Event → List Mark
 key_marks key events = marks (key_entries key events)
 
--- a write of v, and then a read that has not answered yet
+-- a write of v, and then a read that has not returned
 abbrev pub write_then_open_read : ℤ → List Event
 write_then_open_read v =
     event 0 Invoke (write 7 v)
@@ -58,7 +58,7 @@ write_then_open_read v =
 abbrev pub write_then_read : ℤ → ℤ → List Event
 write_then_read v a = write_then_open_read v ++ event 0 Ok (read 7 (Int a)) ∷ []
 
--- a write and, before it has returned, a read that answers its value
+-- a write and, before it has returned, a read that has answered its value
 abbrev pub read_of_pending_write : List Event
 read_of_pending_write =
     event 0 Invoke (write 7 (pos 1))
@@ -66,7 +66,7 @@ read_of_pending_write =
     ∷ event 1 Ok (read 7 (Int (pos 1)))
     ∷ []
 
--- the same, and then the write fails
+-- `read_of_pending_write`, and then the write fails
 abbrev pub read_of_failed_write : List Event
 read_of_failed_write = read_of_pending_write ++ event 0 Fail (write 7 (pos 1)) ∷ []
 
@@ -87,18 +87,18 @@ reads_after_crashed_write a b =
 abbrev pub crashed_read : List Event
 crashed_read = event 0 Invoke (read 7 Nil) ∷ event 0 Info (read 7 Nil) ∷ []
 
--- two enqueues at once
+-- two concurrent enqueues
 abbrev pub two_enqueues : List Event
 two_enqueues =
     event 0 Invoke (enqueue 1 (pos 5))
     ∷ event 1 Invoke (enqueue 1 (pos 6))
     ∷ []
 
--- the same, and then one of them returns
+-- `two_enqueues`, and then one of them returns
 abbrev pub two_enqueues_then_ok : List Event
 two_enqueues_then_ok = two_enqueues ++ event 0 Ok (enqueue 1 (pos 5)) ∷ []
 
--- the same, and then on key 2 a read of a value that nobody has written
+-- `two_enqueues_then_ok`, and then, on key 2, a read of a value that nobody has written
 abbrev pub bad_read_beside_blown : List Event
 bad_read_beside_blown =
     two_enqueues_then_ok
@@ -119,7 +119,7 @@ write_then_cas =
     ∷ event 0 Ok (cas 7 (pos 1) (pos 2))
     ∷ []
 
--- a mutex that one process holds, and another one waits for
+-- one process has acquired a mutex, and another one waits for it
 abbrev pub acquire_while_held : List Event
 acquire_while_held =
     event 0 Invoke (acquire 4)
@@ -127,6 +127,6 @@ acquire_while_held =
     ∷ event 1 Invoke (acquire 4)
     ∷ []
 
--- the same, and then the second client has it too
+-- `acquire_while_held`, and then the second acquire has returned too
 abbrev pub mutex_held_twice : List Event
 mutex_held_twice = acquire_while_held ++ event 1 Ok (acquire 4) ∷ []

@@ -10,7 +10,7 @@ use Rattle.linspec.specs.declared.verdict.Verdict.{Verdict}
 use Rattle.linspec.specs.Verdicts.{IsVerdict}
 use Rattle.linspec.specs.KeyHistory.{KeyHistory}
 
--- events in order, of `concurrency` threads; the kind and the budget of a key for which none was set, and those that were set
+-- events in order, of `concurrency` threads; the default kind and budget of a key; the kinds and the budgets that were set
 pub record JudgedHistory : Type 0 where
   pub concurrency : ℕ
   pub kind : ModelKind
@@ -28,11 +28,11 @@ budget_of h key = unwrap_or (lookup (nat_eq key) h.budgets) h.budget
 abbrev pub entries_in : JudgedHistory → List Entry
 entries_in h = entries_of (indexed_from 0 h.events)
 
--- the verdict, from scratch, on the history as it stands
+-- the verdict, computed from scratch, on the history
 abbrev pub IsVerdictOn : JudgedHistory → Verdict → Type 0
 IsVerdictOn h v = IsVerdict (kind_of h) (budget_of h) (entries_in h) v
 
--- the changes: one more event; the first n events alone; another kind, or another budget, of a key
+-- the changes: one more event; only the first n events; another kind, or another budget, of a key
 abbrev pub with_event : Event → JudgedHistory → JudgedHistory
 with_event event h = record h { events = h.events ++ event ∷ [] }
 
@@ -45,16 +45,16 @@ with_kind key kind h = record h { kinds = insert_entry nat_eq h.kinds key kind }
 abbrev pub with_budget : ℕ → ℕ → JudgedHistory → JudgedHistory
 with_budget key n h = record h { budgets = insert_entry nat_eq h.budgets key n }
 
--- 1 to 65,536
+-- a budget is 1 to 65,536
 abbrev pub IsBudget : ℕ → Type 0
 IsBudget n = (1 ≤ n) × (n ≤ 65536)
 
--- no events, and nothing set
+-- a history without events, kinds and budgets
 abbrev pub opening_of : ℕ → ModelKind → ℕ → JudgedHistory
 opening_of concurrency kind budget =
     record { concurrency = concurrency; kind = kind; budget = budget; kinds = []; budgets = []; events = [] }
 
--- each of the numbers once, where it stands first
+-- each number once, at its first place
 abbrev pub each_once : List ℕ → List ℕ
 each_once [] = []
 each_once (k ∷ ks) = k ∷ filter (λ j. not (nat_eq j k)) (each_once ks)

@@ -1,4 +1,4 @@
--- Invariant: the marks of a history, as they are kept
+-- Invariant: the marks of a history in the form in which they are kept
 use Rattle.std.specs.Prelude.{ℕ, ◌+◌, nat_eq, Bool, true, false, ◌&&◌, Option, Some, None, List, [], ◌∷◌, map, drop, take}
 use Rattle.events.specs.declared.event.Event.{Event}
 use Rattle.events.specs.Events as events
@@ -26,7 +26,7 @@ abbrev pub is_invocation_by : ℕ → Option OpEvent → Bool
 is_invocation_by process None = false
 is_invocation_by process (Some e) = is_invocation e.act && nat_eq process e.process
 
--- the last invocation of each process, after these events
+-- the last invocation of each process in these events, or 0
 abbrev pub last_invocation_from : ℕ → (ℕ → ℕ) → List Event → ℕ → ℕ
 last_invocation_from i last [] = last
 last_invocation_from i last (e ∷ events) = last_invocation_from (i + 1) (last_after i last (op_event e)) events
@@ -34,12 +34,12 @@ last_invocation_from i last (e ∷ events) = last_invocation_from (i + 1) (last_
 abbrev pub last_invocation : List Event → ℕ → ℕ
 last_invocation events = last_invocation_from 0 (λ _. 0) events
 
--- the list of the value, if there is one
+-- a list of the value, or an empty list
 abbrev pub option_items : {X : Type 0} → Option X → List X
 option_items None = []
 option_items (Some x) = x ∷ []
 
--- the marks that an event makes, after those before it
+-- the marks that an event makes, given the events before it
 abbrev pub marks_made : ℕ → List Event → Event → List events.Mark
 marks_made at before e = marks (entries_by at (last_invocation before) (op_event e))
 

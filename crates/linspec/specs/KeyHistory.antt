@@ -7,17 +7,17 @@ use Rattle.events.specs.Events.{entries_of}
 use Rattle.linspec.specs.declared.verdict.KeyStatus.{KeyStatus}
 use Rattle.linspec.specs.Verdicts.{IsKeyStatus}
 
--- the judged history of one key: the kind of its object, the budget, and its events with their indices, in the order in which they came
+-- the judged history of one key: the kind of its object, the budget, and its events with their indices, in order of arrival
 pub record KeyHistory : Type 0 where
   pub kind : ModelKind
   pub budget : ℕ
   pub events : List (ℕ × Event)
 
--- before any event
+-- a history without events
 abbrev pub without_events : ModelKind → ℕ → KeyHistory
 without_events kind budget = record { kind = kind; budget = budget; events = [] }
 
--- from scratch, how the key stands
+-- the status of the key, computed from scratch
 abbrev pub IsStatusOf : KeyHistory → KeyStatus → Type 0
 IsStatusOf h status = IsKeyStatus h.kind h.budget (entries_of h.events) status
 
@@ -34,7 +34,7 @@ cut_at n h = record h { events = events_below n h.events }
 abbrev pub judged_by : ModelKind → ℕ → KeyHistory → KeyHistory
 judged_by kind budget h = record { kind = kind; budget = budget; events = h.events }
 
--- a cut at n takes events of the key away: fewer than all are below n
+-- a cut at n removes an event of the key: not all its events are below n
 abbrev pub loses_at : ℕ → KeyHistory → Bool
 loses_at n h = nat_lt (length (events_below n h.events)) (length h.events)
 

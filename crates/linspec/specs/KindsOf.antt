@@ -6,11 +6,11 @@ use Rattle.kinds.specs.declared.model_kind.ModelKind.{ModelKind}
 use Rattle.events.specs.Events.{Mark}
 use Rattle.events.specs.Events.Mark.{Invoked}
 
--- each key of the list is of the kind that the list gives it
+-- each key of the list has the kind that the list gives it
 abbrev pub AgreeWith : (ℕ → ModelKind) → List (ℕ × ModelKind) → Type 0
 AgreeWith kinds list = (key : ℕ) (kind : ModelKind) → Contains list (key, kind) → kinds key ≡ kind
 
--- the list has each key of an operation
+-- the list contains the key of each operation
 abbrev pub HaveKinds : List (ℕ × ModelKind) → List Mark → Type 0
 HaveKinds list marks =
     (id : ℕ) (op : Op) → Contains marks (Invoked id op)

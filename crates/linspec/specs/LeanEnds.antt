@@ -13,7 +13,7 @@ use Rattle.linspec.specs.MarkRule.{AreWellFormed}
 use Rattle.linspec.specs.Operations.{HasReturned, IsOpen}
 use Rattle.linspec.specs.Orders.{IsLinearizable, Pairwise}
 
--- the operation writes v; it reads
+-- the operation writes v; the operation reads
 abbrev pub Writes : Op → ℤ → Type 0
 Writes op v = (op.name ≡ Write) × (op.part ≡ Int v)
 
@@ -35,19 +35,19 @@ pub record MayWrite (marks : List Mark) (id : ℕ) (v : ℤ) : Type 0 where
 abbrev pub MayRead : List Mark → ℕ → Type 0
 MayRead marks id = IsRead marks id × IsOpen marks id
 
--- a lean end. It has the state, and the open and crashed writes that took place, since an answer needs them. It has the operations that may
--- still take place just before the last write, and the values that each open read may find
+-- a lean end. It has the state, and the open and crashed writes that took place (`needed`: an answer needs them). It has the operations
+-- that may still take place just before the last write (`door`), and the values that each open read may find
 pub record LeanEnd : Type 0 where
   pub state : Option ℤ
   pub needed : ℕ → Bool
   pub door : ℕ → Bool
   pub finds : ℕ → ℤ → Bool
 
--- the end of no operation
+-- the end of the empty history
 abbrev pub start : LeanEnd
 start = record { state = None; needed = λ i. false; door = λ i. false; finds = λ i v. false }
 
--- the write takes place behind all others: open operations may still take place just before it, and each open read may find it
+-- the write takes place after all others: open operations may still take place just before it, and each open read may find it
 pub record IsPutBehind (marks : List Mark) (e : LeanEnd) (id : ℕ) (v : ℤ) (f : LeanEnd)
     : Type 0 where
   pub state : f.state ≡ Some v
@@ -57,7 +57,7 @@ pub record IsPutBehind (marks : List Mark) (e : LeanEnd) (id : ℕ) (v : ℤ) (f
   pub finds : (r : ℕ) (w : ℤ) → IsTrue (f.finds r w)
       ↔ (IsTrue (e.finds r w) ⊎ (MayRead marks r × (w ≡ v)))
 
--- the write takes place just before the last one: only reads that may take place there may find it
+-- the write takes place just before the last write: only reads that may take place there may find it
 pub record IsPutBefore (marks : List Mark) (e : LeanEnd) (id : ℕ) (v : ℤ) (f : LeanEnd)
     : Type 0 where
   pub may : IsTrue (e.door id)
@@ -67,7 +67,7 @@ pub record IsPutBefore (marks : List Mark) (e : LeanEnd) (id : ℕ) (v : ℤ) (f
   pub finds : (r : ℕ) (w : ℤ) → IsTrue (f.finds r w)
       ↔ (IsTrue (e.finds r w) ⊎ (MayRead marks r × IsTrue (e.door r) × (w ≡ v)))
 
--- the operation is done, or out: nothing is open of it any more
+-- the operation is no longer open, and the end has nothing of it
 pub record IsWithout (e : LeanEnd) (id : ℕ) (f : LeanEnd) : Type 0 where
   pub state : f.state ≡ e.state
   pub needed : (i : ℕ) → IsTrue (f.needed i) ↔ (IsTrue (e.needed i) × (¬ (i ≡ id)))
@@ -82,11 +82,11 @@ pub record IsWithRead (e : LeanEnd) (id : ℕ) (f : LeanEnd) : Type 0 where
   pub finds : (r : ℕ) (w : ℤ) → IsTrue (f.finds r w)
       ↔ (IsTrue (e.finds r w) ⊎ ((r ≡ id) × (e.state ≡ Some w)))
 
--- an invocation
+-- an operation is invoked
 abbrev pub Begins : LeanEnd → ℕ → Op → LeanEnd → Type 0
 Begins e id op f = (Reads op × IsWithRead e id f) ⊎ ((¬ Reads op) × (f ≡ e))
 
--- the ok of a write: it took place already, or takes place now, behind all others or just before the last write
+-- the ok of a write: the write took place already, or takes place now, after all others or just before the last write
 abbrev pub EndsWrite : List Mark → LeanEnd → ℕ → ℤ → LeanEnd → Type 0
 EndsWrite marks e id v f =
     (IsTrue (e.needed id) × IsWithout e id f)
@@ -99,7 +99,7 @@ EndsRead marks e id v f =
     ⊎ ((¬ IsTrue (e.finds id v)) × ((x : ℕ) × (g : LeanEnd) × MayWrite marks x v × (¬ IsTrue (e.needed x))
     × (IsPutBehind marks e x v g ⊎ (IsTrue (e.door id) × IsPutBefore marks e x v g)) × IsWithout g id f))
 
--- an ok
+-- the ok of an operation
 abbrev pub Answers : List Mark → LeanEnd → ℕ → Answer → LeanEnd → Type 0
 Answers marks e id answer f =
     ((v : ℤ) × IsWriteOf marks id v × EndsWrite marks e id v f)
@@ -113,7 +113,7 @@ Becomes marks e (Returned id answer) f = Answers marks e id answer f
 Becomes marks e (Failed id) f = (¬ IsTrue (e.needed id)) × IsWithout e id f
 Becomes marks e (Crashed id) f = (IsRead marks id × IsWithout e id f) ⊎ ((¬ IsRead marks id) × (f ≡ e))
 
--- the effect of several marks on it
+-- the effect of several marks on an end
 abbrev pub BecomesBy : List Mark → LeanEnd → List Mark → LeanEnd → Type 0
 BecomesBy marks e [] f = e ≡ f
 BecomesBy marks e (m ∷ more) f =
@@ -123,7 +123,7 @@ BecomesBy marks e (m ∷ more) f =
 abbrev pub IsLeanEnd : List Mark → LeanEnd → Type 0
 IsLeanEnd marks f = BecomesBy [] start marks f
 
--- f may become all that e may: it needs the same open writes and no other crashed one, and allows as much
+-- f allows all that e allows: the same open writes took place in it, and no other crashed ones
 pub record IsAtMost (marks : List Mark) (e f : LeanEnd) : Type 0 where
   pub state : e.state ≡ f.state
   pub needed : (i : ℕ) → IsTrue (f.needed i) → IsTrue (e.needed i)
@@ -131,7 +131,7 @@ pub record IsAtMost (marks : List Mark) (e f : LeanEnd) : Type 0 where
   pub door : (i : ℕ) → IsTrue (e.door i) → IsTrue (f.door i)
   pub finds : (r : ℕ) (w : ℤ) → IsTrue (e.finds r w) → IsTrue (f.finds r w)
 
--- the ends that the mark makes of these ends, without those that are at most another one
+-- the ends that the mark makes of these ends, without each end that is at most another one
 pub record AreLeftBy (marks : List Mark) (m : Mark) (ends left : List LeanEnd) : Type 0 where
   pub each : (f : LeanEnd) → Contains left f → (e : LeanEnd) × Contains ends e × Becomes marks e m f
   pub all : (e f : LeanEnd) → Contains ends e → Becomes marks e m f
@@ -143,7 +143,7 @@ AreLeftByAll marks ends [] left = ends ≡ left
 AreLeftByAll marks ends (m ∷ more) left =
     (next : List LeanEnd) × AreLeftBy marks m ends next × AreLeftByAll (marks ++ m ∷ []) next more left
 
--- these are the lean ends of the history, each once
+-- `left` are the lean ends of the history, without each end that is at most another one
 abbrev pub AreLeanEnds : List Mark → List LeanEnd → Type 0
 AreLeanEnds marks left = AreLeftByAll [] (start ∷ []) marks left
 
@@ -154,6 +154,6 @@ pub record HasMoreLeanEnds (marks : List Mark) (n : ℕ) : Type 0 where
   pub are : AreLeanEnds marks ends
   pub many : n < length ends
 
--- and it has a legal order
+-- the history has a legal order and more than n lean ends
 abbrev pub HasMoreLeanEndsThan : List Mark → ℕ → Type 0
 HasMoreLeanEndsThan marks n = IsLinearizable register marks × HasMoreLeanEnds marks n

@@ -1,4 +1,4 @@
--- Promise: as far as operations go, an invocation is of a new operation, and a completion of an open one
+-- Promise: the rule of marks: an invocation is of a new operation, and a completion is of an open one
 use Rattle.std.specs.Prelude.{◌≡◌, ◌≢◌, ℕ, List, ◌∷◌, ◌++◌}
 use Rattle.std.specs.List.{Contains}
 use Rattle.models.specs.declared.operation.Op.{Op}
@@ -6,14 +6,14 @@ use Rattle.events.specs.Events.{Mark, Entry}
 use Rattle.events.specs.Events.Mark.{Invoked, Returned, Failed, Crashed}
 use Rattle.linspec.specs.Operations.{IsOpen}
 
--- the operation that a mark speaks of
+-- the operation that a mark names
 abbrev pub id_of : Mark → ℕ
 id_of (Invoked id op) = id
 id_of (Returned id answer) = id
 id_of (Failed id) = id
 id_of (Crashed id) = id
 
--- no mark speaks of the operation
+-- no mark names the operation
 abbrev pub IsNew : List Mark → ℕ → Type 0
 IsNew marks id = (m : Mark) → Contains marks m → id_of m ≢ id
 

@@ -1,5 +1,5 @@
--- Promise: operations, and which precede which (Herlihy and Wing 1990, section 2). An operation is named by the index
--- of its invocation, and what became of it is a fact about the marks of its history
+-- Promise: operations, and which precede which (Herlihy and Wing 1990, section 2). The name of an operation is the index of its invocation.
+-- The marks of the history say whether it has returned, failed or crashed
 use Rattle.std.specs.Prelude.{◌≡◌, ℕ, List, ◌++◌}
 use Rattle.std.specs.List.{Contains}
 use Rattle.models.specs.declared.operation.Op.{Op}
@@ -7,7 +7,7 @@ use Rattle.models.specs.declared.finding.Answer.{Answer}
 use Rattle.events.specs.Events.{Mark}
 use Rattle.events.specs.Events.Mark.{Invoked, Returned, Failed, Crashed}
 
--- the operation is invoked; it is done; it is open, that is, invoked without a completion
+-- the operation is invoked; it has returned; it is open: invoked, and without a completion
 abbrev pub IsInvoked : List Mark → ℕ → Type 0
 IsInvoked marks id = (op : Op) × Contains marks (Invoked id op)
 

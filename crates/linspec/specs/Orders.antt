@@ -31,21 +31,21 @@ abbrev pub Run : (o : Object) → o.State → List Taken → o.State → Type 0
 Run o s [] t = s ≡ t
 Run o s (x ∷ order) t = (mid : o.State) × o.Steps s x.op x.found mid × Run o mid order t
 
--- a legal order of the history, which ends in the state s. Herlihy and Wing extend the history by returns, leave the other pending
--- invocations out, and want a legal sequential history with the same operations of each process, which keeps the order of operations. Here
--- the order has every operation that has returned, and pending ones as it likes. A process has one operation at a time, so `in_time` keeps
--- the order of each process
+-- a legal order of the history, which ends in the state s. Herlihy and Wing add returns for some pending invocations and drop the others.
+-- The result must have a legal sequential history with the same operations of each process, and this history must keep the order of
+-- operations. Here the order has every operation that has returned, and some, all or none of the pending ones. A process has one
+-- operation at a time, so `in_time` keeps the order of each process
 pub record IsLegalOrder (o : Object) (marks : List Mark) (order : List Taken) (s : o.State)
     : Type 0 where
   -- operations of the history, each at most once
   pub invoked : (x : Taken) → Contains order x → Contains marks (Invoked x.id x.op)
   pub once : Pairwise (λ x y. x.id ≢ y.id) order
-  -- none failed, and every done one is there
+  -- no failed operation, and every operation that has returned
   pub none_failed : (x : Taken) → Contains order x → ¬ Contains marks (Failed x.id)
   pub all_done : (id : ℕ) → HasReturned marks id → Includes order id
-  -- none stands after one that it precedes
+  -- no operation comes after one that it precedes
   pub in_time : Pairwise (λ x y. ¬ Precedes marks y.id x.id) order
-  -- each in turn can take place, and what a done one finds fits its answer
+  -- the operations can take place in this order; an operation that has returned finds a value that fits its answer
   pub run : Run o o.start order s
   pub fits : (x : Taken) (answer : Answer) → Contains order x
       → Contains marks (Returned x.id answer) → Fits x.found answer
@@ -54,7 +54,8 @@ pub record IsLegalOrder (o : Object) (marks : List Mark) (order : List Taken) (s
 abbrev pub IsLinearizable : Object → List Mark → Type 0
 IsLinearizable o marks = (order : List Taken) × (s : o.State) × IsLegalOrder o marks order s
 
--- a state of all keys is a state of each. A step is one of its own key, and leaves the others (Herlihy and Wing 1990, 3.1)
+-- a state of all keys is a state of each key. A step is a step of the operation's key, and leaves the states of the other keys as they
+-- are (Herlihy and Wing 1990, 3.1)
 abbrev pub product : (ℕ → ModelKind) → Object
 product kinds = record {
   State = (k : ℕ) → (object_of (kinds k)).State;

@@ -1,4 +1,4 @@
--- Promise: the twins of a queue, two enqueues of one value (this project's own)
+-- Promise: the twins of a queue: two enqueues of one value (this project's own)
 use Rattle.std.specs.Prelude.{◌≡◌, ◌≢◌, ℕ, ℤ, List}
 use Rattle.std.specs.List.{Contains}
 use Rattle.models.specs.declared.operation.Name.TheVariants.{Enqueue}
@@ -16,7 +16,7 @@ Enqueues op v = (op.name ≡ Enqueue) × (op.part ≡ Int v)
 abbrev pub IsEnqueueOf : List Mark → ℕ → ℤ → Type 0
 IsEnqueueOf marks id v = (op : Op) × Contains marks (Invoked id op) × Enqueues op v
 
--- an enqueue of v that has not failed: it is done, or may take place yet
+-- an enqueue of v that has not failed: it is done, or may still take place
 abbrev pub MayEnqueue : List Mark → ℕ → ℤ → Type 0
 MayEnqueue marks id v = IsEnqueueOf marks id v × (¬ Contains marks (Failed id))
 
@@ -29,6 +29,6 @@ pub record AreTwins (marks : List Mark) (a b : ℕ) (v : ℤ) : Type 0 where
 abbrev pub HasTwins : List Mark → Type 0
 HasTwins marks = (a b : ℕ) × (v : ℤ) × AreTwins marks a b v
 
--- more than any number is counted of a linearizable history that has twins
+-- a linearizable history that has twins counts more than any n
 abbrev pub CountsTwins : List Mark → ℕ → Type 0
 CountsTwins marks n = IsLinearizable fifo_queue marks × HasTwins marks

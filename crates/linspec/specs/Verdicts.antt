@@ -13,7 +13,7 @@ use Rattle.linspec.specs.declared.verdict.KeyStatus.TheVariants.{Alive, Dead, Ov
 use Rattle.linspec.specs.declared.verdict.Verdict.{Verdict}
 use Rattle.linspec.specs.declared.verdict.Verdict.TheVariants.{Legal, Illegal, Unknown}
 
--- the shortest front that is not linearizable ends with this entry: each shorter front is linearizable
+-- the shortest prefix that is not linearizable ends with the entry `last`: each shorter prefix is linearizable
 pub record EndsShortestBadPrefix (o : Object) (entries : List Entry) (last : Entry) : Type 0 where
   pub before : List Entry
   pub front : IsPrefixOf (before ++ last ∷ []) entries
@@ -35,7 +35,7 @@ IsKeyStatusBy more o budget entries (Dead i) =
 IsKeyStatusBy more o budget entries Alive =
     IsWithinBudgetBy more budget entries × EveryPrefixIsLinearizable o entries
 
--- the history without the events of the keys for which blown is true
+-- the history without the events of the keys that `blown` names
 abbrev pub set_aside : (ℕ → Bool) → List Entry → List Entry
 set_aside blown entries = filter (λ e. not (blown e.key)) entries
 
@@ -47,7 +47,7 @@ module _ (more : ModelKind → Count) (kinds : ℕ → ModelKind) (budgets : ℕ
   abbrev pub IsBlownKeyAtBy : ℕ → ℕ → Type 0
   IsBlownKeyAtBy k i = IsBlownIndexBy (more (kinds k)) (budgets k) (of_key k entries) i
 
-  -- the verdict, if blown is true of the keys over budget
+  -- the verdict, if `blown` names the keys over budget
   abbrev pub IsVerdictWithBy : (ℕ → Bool) → Verdict → Type 0
   IsVerdictWithBy blown (Illegal key index) =
       (last : Entry) × EndsShortestBadPrefix (product kinds) (set_aside blown entries) last
@@ -63,7 +63,7 @@ module _ (more : ModelKind → Count) (kinds : ℕ → ModelKind) (budgets : ℕ
   IsVerdictBy v =
       (blown : ℕ → Bool) × ((k : ℕ) → IsTrue (blown k) ↔ IsBlownKeyBy k) × IsVerdictWithBy blown v
 
--- the index of an event rises
+-- each event has a greater index than the one before it
 abbrev pub IsRising : List Entry → Type 0
 IsRising entries = Pairwise (λ e f. e.index < f.index) entries
 
@@ -76,7 +76,7 @@ pub record AreStatusesBy (more : ModelKind → Count) (kinds : ℕ → ModelKind
   pub all : (e : Entry) → Contains entries e
       → (status : KeyStatus) × Contains statuses (e.key, status)
 
--- crashed reads are set aside, and each kind counts as it does
+-- the status by the count of the key's kind; crashed reads do not count
 abbrev pub IsKeyStatus : ModelKind → ℕ → List Entry → KeyStatus → Type 0
 IsKeyStatus kind = IsKeyStatusBy (CountsMoreThan kind) (object_of kind)
 
@@ -86,14 +86,14 @@ IsVerdict = IsVerdictBy CountsMoreThan
 abbrev pub AreStatuses : (ℕ → ModelKind) → (ℕ → ℕ) → List Entry → List (ℕ × KeyStatus) → Type 0
 AreStatuses = AreStatusesBy CountsMoreThan
 
--- the same words with reads, where each crashed operation counts
+-- the verdict if crashed reads count too
 abbrev pub IsBlownKeyWithReads : (ℕ → ModelKind) → (ℕ → ℕ) → List Entry → ℕ → Type 0
 IsBlownKeyWithReads = IsBlownKeyBy CountsMoreThanWithReads
 
 abbrev pub IsVerdictWithReads : (ℕ → ModelKind) → (ℕ → ℕ) → List Entry → Verdict → Type 0
 IsVerdictWithReads = IsVerdictBy CountsMoreThanWithReads
 
--- the promise of join: a pair of the list with the least Dead index, else one with the least Over index, else Legal
+-- the promise of join. Illegal: a pair of the list with the least Dead index; else Unknown: a pair with the least Over index; else Legal
 abbrev pub IsJoin : List (ℕ × KeyStatus) → Verdict → Type 0
 IsJoin statuses (Illegal key index) =
     Contains statuses (key, Dead index)

@@ -1,4 +1,4 @@
-//! Whether a history is linearizable, found by trying orders.
+//! A test whether a history is linearizable, which tries all orders.
 ghost use Rattle.std.specs.Prelude.{◌≡◌, ◌↔◌, ◌⊎◌, ℕ, [], ◌∷◌, ◌++◌, List, IsTrue, IfOk, OnOk, option_copied, map};
 ghost use Rattle.std.specs.List.{Contains};
 ghost use Rattle.models.specs.declared.finding.Found.{Found};
@@ -21,7 +21,7 @@ use models::{Found, Key, Op};
 use std::alloc::{AllocError, Global};
 use std::marker::Model;
 
-/// A prefix of an order: its operations, and the state that they leave of each key.
+/// The beginning of an order: its operations, and the state of each key after them.
 #[derive(Drop)]
 struct Attempt {
     taken: Vec<usize>,
@@ -29,12 +29,18 @@ struct Attempt {
 }
 
 impl Model for Attempt {
+    ghost use Rattle.std.specs.Coded.{codes};
+    ghost use Rattle.linspec.specs.Attempts.{AttemptView};
+    ghost use Rattle.kinds.specs.contracts.any_state.AnyState as any_state;
+
     ghost Value = { AttemptView };
+
+    ghost coded = { Prim.hlevel (codes, any_state.the_row.coded) };
 
     ghost view = { λ a. record { taken = a.taken.items; states = a.states.items } };
 }
 
-/// The state of a key.
+/// Returns the state of a key.
 fn state_of(states: &[(Key, AnyState)], key: Key) -> Option<&AnyState>
     ensures { option_copied result ≡ state_at states.now key }
 {
@@ -46,7 +52,7 @@ fn state_of(states: &[(Key, AnyState)], key: Key) -> Option<&AnyState>
     None
 }
 
-/// The state of the entry's key after the state of `key` has changed.
+/// Returns the state of `entry`, after the state of `key` has become `state`.
 fn state_after(
     alloc: Global,
     entry: &(Key, AnyState),
@@ -62,7 +68,7 @@ fn state_after(
     }
 }
 
-/// The states of all keys, with this one for `key`.
+/// Returns the states of all keys, with `state` for `key`.
 fn states_with(
     alloc: Global,
     states: &[(Key, AnyState)],
@@ -79,7 +85,8 @@ fn states_with(
     Ok(after)
 }
 
-/// The outcomes of the operation in the state of its key: each state after it, and its answer. Nothing if it cannot take place.
+/// Returns the outcomes of the operation in the state of its key: each with the state after it and the found value. The list is empty if
+/// the operation cannot take place.
 fn outcomes_in(
     alloc: Global,
     states: &[(Key, AnyState)],
@@ -95,21 +102,21 @@ fn outcomes_in(
     }
 }
 
-/// Whether the operation precedes one of these.
+/// Returns whether operation `id` precedes one of the operations in `taken`.
 fn precedes_some(marks: &[KeptMark], id: usize, taken: &[usize]) -> bool
     ensures { IsTrue result ↔ PrecedesSome (marks_of_kept marks.now) id taken.now }
 {
     taken.iter().any(|other| precedes(marks, id, *other))
 }
 
-/// Whether the operation may come after the taken ones.
+/// Returns whether operation `id` may come directly after the operations in `taken`.
 fn may_stand_after(marks: &[KeptMark], taken: &[usize], id: usize) -> bool
     ensures { IsTrue result ↔ MayStandAfter (marks_of_kept marks.now) taken.now id }
 {
     !is_among(taken, id) && !has_failed(marks, id) && !precedes_some(marks, id, taken)
 }
 
-/// The order with the operation behind it, if the state of its key is now this one.
+/// Returns the order with operation `id` appended, and `state` as the state of its key.
 fn with_outcome(
     alloc: Global,
     order: &Attempt,
@@ -127,7 +134,7 @@ fn with_outcome(
     Ok(Attempt { taken, states })
 }
 
-/// Puts the order with the operation behind the others, if what it finds by this outcome fits its answer.
+/// Appends to `attempts` the order with operation `id` appended, if the found value of this outcome fits the operation's answer.
 fn push_outcome(
     alloc: Global,
     marks: &[KeptMark],
@@ -149,7 +156,7 @@ fn push_outcome(
     Ok(())
 }
 
-/// The same for each of these outcomes.
+/// Appends to `attempts`, for each outcome, the order with operation `id` appended, if the found value fits the operation's answer.
 fn push_outcomes(
     alloc: Global,
     marks: &[KeptMark],
@@ -169,7 +176,7 @@ fn push_outcomes(
     Ok(())
 }
 
-/// Puts the order with the operation, in each way in which it may come next, behind the others.
+/// Appends to `attempts` the order with operation `id` appended, once for each outcome by which the operation may come next.
 fn push_operation(
     alloc: Global,
     marks: &[KeptMark],
@@ -189,7 +196,7 @@ fn push_operation(
     push_outcomes(alloc, marks, order, id, op.key, &outcomes, attempts)
 }
 
-/// Puts the order with the operation that the mark invokes, in each way in which it may come next, behind the others.
+/// Appends to `attempts` the order with the operation that `mark` invokes appended, once for each outcome by which it may come next.
 fn push_invoked(
     alloc: Global,
     marks: &[KeptMark],
@@ -207,7 +214,7 @@ fn push_invoked(
     }
 }
 
-/// The orders that are this one with one operation more.
+/// Returns all orders that consist of this one and one more operation.
 fn next_orders(
     alloc: Global,
     marks: &[KeptMark],
@@ -223,7 +230,7 @@ fn next_orders(
     Ok(attempts)
 }
 
-/// Whether the operations that are left may follow, until every one that has returned is taken.
+/// Returns whether the order can be continued until it contains every operation that has returned.
 fn can_finish(alloc: Global, marks: &[KeptMark], order: &Attempt) -> Result<bool, AllocError>
     ensures { IfOk result (λ b. IsTrue b
         ↔ CanFinish Steps (marks_of_kept marks.now) order.now.taken order.now.states) }
@@ -240,7 +247,7 @@ fn can_finish(alloc: Global, marks: &[KeptMark], order: &Attempt) -> Result<bool
     Ok(false)
 }
 
-/// The start states of the keys.
+/// Returns the start state of each key.
 fn start_states(
     alloc: Global,
     kinds: &[(Key, ModelKind)],
@@ -254,11 +261,11 @@ fn start_states(
     Ok(states)
 }
 
-/// Whether the history is linearizable (Herlihy and Wing 1990, section 2.3). The list has the kind of each key's object. This is the
-/// brute-force checker, with which tests compare quicker ones: it tries each order in which the operations can take place one after
-/// another. No clause says anything if the list lacks a key of the history, or has one key twice.
+/// Returns whether the history is linearizable (Herlihy and Wing 1990, section 2.3). `kinds` has the kind of each key's object. No clause
+/// holds if `kinds` lacks a key of the history, or has a key twice. This is the brute-force checker, with which tests compare faster ones:
+/// it tries each order in which the operations can take place one after another.
 ///
-/// It is for at most eight operations, since its cost is O(orders of the operations).
+/// Use it for at most eight operations, since it costs O(orders of the operations).
 pub fn brute(
     alloc: Global,
     history: &History,

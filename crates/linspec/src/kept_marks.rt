@@ -1,4 +1,4 @@
-//! The operations of a history with their events, and questions about it, each answered by going through it all.
+//! The operations of a history with their events, and functions that answer questions about them. Each function reads all marks.
 ghost use Rattle.std.specs.Prelude.{◌≡◌, ◌↔◌, ℕ, ◌<◌, IsTrue, IfOk, length};
 ghost use Rattle.std.specs.List.{Contains};
 ghost use Rattle.models.specs.declared.operation.Op.{Op};
@@ -13,7 +13,7 @@ use events::{Body, Event, EventKind, Process};
 use models::{Answer, Found, Op, fits};
 use std::alloc::{AllocError, Global};
 
-/// An event of an operation, which the index of its invocation names.
+/// An event of an operation. The index of the invocation identifies the operation.
 #[derive(Drop)]
 pub enum KeptMark {
     Invoked(usize, Op),
@@ -22,7 +22,7 @@ pub enum KeptMark {
     Crashed(usize),
 }
 
-// Whether the event is an invocation by the process.
+// Returns whether the event is an invocation by the process.
 fn is_invocation_by(event: &Event, process: u32) -> bool
     ensures { result ≡ is_invocation_by process (op_event event.now) }
 {
@@ -32,7 +32,7 @@ fn is_invocation_by(event: &Event, process: u32) -> bool
     }
 }
 
-/// The index of the last invocation by the process, 0 if there is none.
+/// Returns the index of the last invocation by the process, or 0 if there is none.
 fn last_invocation_by(events: &[Event], process: u32) -> usize
     ensures { result ≡ last_invocation events.now process }
 {
@@ -45,7 +45,7 @@ fn last_invocation_by(events: &[Event], process: u32) -> usize
     last
 }
 
-// The mark of the event of this place and kind, whose process's last invocation is `last`.
+// Returns the mark of the event at index `at`. `last` is the index of the last invocation by its process.
 fn kept_mark(at: usize, last: usize, kind: EventKind, op: &Op) -> Result<KeptMark, AllocError>
     ensures { IfOk result (λ mark. mark_of mark ≡ mark_by_act at last (act_by kind op.now)) }
 {
@@ -57,7 +57,7 @@ fn kept_mark(at: usize, last: usize, kind: EventKind, op: &Op) -> Result<KeptMar
     }
 }
 
-// The mark of the event at this place. A fault has none.
+// Returns the mark of the event at index `at`, or `None` if the event is a fault.
 fn mark_at(events: &[Event], at: usize) -> Result<Option<KeptMark>, AllocError>
     requires { at < length events.now }
     ensures { IfOk result (λ mark. marks_of_kept (option_items mark) ≡ marks_at events.now at) }
@@ -72,7 +72,7 @@ fn mark_at(events: &[Event], at: usize) -> Result<Option<KeptMark>, AllocError>
     }
 }
 
-/// The marks of a history of these events. Takes the square of their number.
+/// Returns the marks of the history of these events. Costs O(n^2) in the events.
 pub fn marks_of(alloc: Global, events: &[Event]) -> Result<Vec<KeptMark>, AllocError>
     ensures { IfOk result (λ all.
         marks_of_kept all.items ≡ marks (entries_of (indexed_from 0 events.now))) }
@@ -86,42 +86,42 @@ pub fn marks_of(alloc: Global, events: &[Event]) -> Result<Vec<KeptMark>, AllocE
     Ok(all)
 }
 
-/// Whether the mark is the operation's invocation.
+/// Returns whether the mark is the invocation of operation `id`.
 fn invokes(mark: &KeptMark, id: usize) -> bool
     ensures { IsTrue result ↔ ((op : Op) × (mark_of mark.now ≡ Invoked id op)) }
 {
     matches!(mark, KeptMark::Invoked(other, _) if *other == id)
 }
 
-/// Whether the mark is the operation's return.
+/// Returns whether the mark is the return of operation `id`.
 fn returns(mark: &KeptMark, id: usize) -> bool
     ensures { IsTrue result ↔ ((answer : Answer) × (mark_of mark.now ≡ Returned id answer)) }
 {
     matches!(mark, KeptMark::Returned(other, _) if *other == id)
 }
 
-/// Whether the mark says that the operation failed.
+/// Returns whether the mark says that operation `id` failed.
 fn fails(mark: &KeptMark, id: usize) -> bool
     ensures { IsTrue result ↔ (mark_of mark.now ≡ Failed id) }
 {
     matches!(mark, KeptMark::Failed(other) if *other == id)
 }
 
-/// Whether the operation has returned.
+/// Returns whether operation `id` has returned.
 fn has_returned(marks: &[KeptMark], id: usize) -> bool
     ensures { IsTrue result ↔ HasReturned (marks_of_kept marks.now) id }
 {
     marks.iter().any(|mark| returns(mark, id))
 }
 
-/// Whether the operation has failed. Costs O(marks).
+/// Returns whether operation `id` has failed. Costs O(marks).
 pub fn has_failed(marks: &[KeptMark], id: usize) -> bool
     ensures { IsTrue result ↔ Contains (marks_of_kept marks.now) (Failed id) }
 {
     marks.iter().any(|mark| fails(mark, id))
 }
 
-/// Whether `a` has returned before `b` is invoked (Herlihy and Wing 1990, section 2). Costs O(marks).
+/// Returns whether operation `a` has returned before operation `b` is invoked (Herlihy and Wing 1990, section 2). Costs O(marks).
 pub fn precedes(marks: &[KeptMark], a: usize, b: usize) -> bool
     ensures { IsTrue result ↔ Precedes (marks_of_kept marks.now) a b }
 {
@@ -133,7 +133,7 @@ pub fn precedes(marks: &[KeptMark], a: usize, b: usize) -> bool
     false
 }
 
-/// Whether the mark says that the operation returned, and then what was found fits the answer.
+/// Returns false only if the mark is the return of operation `id` and the found value does not fit its answer.
 fn agrees(mark: &KeptMark, id: usize, found: &Found) -> bool
     ensures { IsTrue result
         ↔ ((answer : Answer) → mark_of mark.now ≡ Returned id answer → Fits found.now answer) }
@@ -144,7 +144,7 @@ fn agrees(mark: &KeptMark, id: usize, found: &Found) -> bool
     }
 }
 
-/// Whether what the operation found fits its answer, if it has returned. Costs O(marks).
+/// Returns false only if operation `id` has returned and the found value does not fit its answer. Costs O(marks).
 pub fn agrees_with_answer(marks: &[KeptMark], id: usize, found: &Found) -> bool
     ensures { IsTrue result ↔ ((answer : Answer) →
         Contains (marks_of_kept marks.now) (Returned id answer) → Fits found.now answer) }
@@ -152,14 +152,14 @@ pub fn agrees_with_answer(marks: &[KeptMark], id: usize, found: &Found) -> bool
     marks.iter().all(|mark| agrees(mark, id, found))
 }
 
-/// Whether the operation is among these. Costs O(their number).
+/// Returns whether `taken` contains operation `id`. Costs O(`taken`).
 pub fn is_among(taken: &[usize], id: usize) -> bool
     ensures { IsTrue result ↔ Contains taken.now id }
 {
     taken.contains(&id)
 }
 
-/// Whether the mark is not a return of an operation outside these.
+/// Returns false only if the mark is the return of an operation that is not in `taken`.
 fn is_done(mark: &KeptMark, taken: &[usize]) -> bool
     ensures { IsTrue result ↔ ((id : ℕ) (answer : Answer) →
         mark_of mark.now ≡ Returned id answer → Contains taken.now id) }
@@ -170,7 +170,7 @@ fn is_done(mark: &KeptMark, taken: &[usize]) -> bool
     }
 }
 
-/// Whether each operation that has returned is among these. Takes no memory, and for each mark the time of these.
+/// Returns whether `taken` contains each operation that has returned. Does not allocate. Costs O(marks * `taken`).
 pub fn all_done(marks: &[KeptMark], taken: &[usize]) -> bool
     ensures { IsTrue result
         ↔ ((id : ℕ) → HasReturned (marks_of_kept marks.now) id → Contains taken.now id) }

@@ -1,4 +1,4 @@
-//! Laws that show that the definitions say what they should.
+//! Laws that test the definitions of this crate.
 ghost use Rattle.std.specs.Prelude.{◌≡◌, ◌≢◌, ◌↔◌, ◌≤◌, ℕ, ℤ, pos, Bool, List, [], ◌∷◌, ◌++◌};
 ghost use Rattle.models.specs.declared.operation.Op.{Op};
 ghost use Rattle.models.specs.Objects.{register, cas_register, mutex, fifo_queue};
@@ -39,7 +39,7 @@ pub fn fronts_law()
         → IsLinearizable (product kinds) (marks front) }
 {}
 
-/// No longer history revives a front that is not linearizable: then the whole isn't either.
+/// If a prefix of a history is not linearizable, the whole history is not linearizable either.
 pub fn no_revival_law()
     ensures one { (kind : ModelKind) (front entries : List Entry) →
         AreWellFormed (marks entries) → IsPrefixOf front entries
@@ -51,7 +51,8 @@ pub fn no_revival_law()
         → ¬ IsLinearizable (product kinds) (marks entries) }
 {}
 
-/// Neither an invocation of a new operation nor a crash kills: a linearizable history stays so, for one key and for all keys together.
+/// A linearizable history stays linearizable after an invocation of a new operation and after a crash. This holds for one key and for all
+/// keys together.
 pub fn never_kills_law()
     ensures invocation { (kind : ModelKind) (marks : List Mark) (id : ℕ) (op : Op) →
         IsNew marks id → IsLinearizable (object_of kind) marks
@@ -67,8 +68,7 @@ pub fn never_kills_law()
         → IsLinearizable (product kinds) (marks ++ Crashed id ∷ []) }
 {}
 
-/// The definitions determine the answer, whichever crashed operations count: a key has one status, and a history one
-/// verdict.
+/// The definitions determine one status for a key and one verdict for a history, whichever crashed operations count.
 pub fn one_answer_law()
     ensures status { (counts : Op → Bool) (kind : ModelKind) (budget : ℕ) (entries : List Entry)
         (s t : KeyStatus) → let more = CountsMoreThanBy counts kind in
@@ -80,7 +80,7 @@ pub fn one_answer_law()
         → IsVerdictBy more kinds budgets entries w → v ≡ w }
 {}
 
-/// Consequences of the process rule for the entries of a history.
+/// The entries of a history that follows the process rule are keyed, well-formed, and have rising indices.
 pub fn history_law()
     ensures keyed { (events : List (ℕ × Event)) →
         IsHistory events → IsKeyed (entries_of events) }
@@ -90,12 +90,12 @@ pub fn history_law()
         IsHistory events → IsRising (entries_of events) }
 {}
 
-/// In a whole history, whose events are indexed by their places, the indices of the entries rise.
+/// If the events of a history are indexed by their places, the indices of its entries rise.
 pub fn places_rise()
     ensures { (events : List Event) → IsRising (entries_of (indexed_from 0 events)) }
 {}
 
-/// A read after a write may answer the written value and no other; before it has answered, nothing is wrong yet.
+/// A read after a write may answer the written value and no other value. Before the read answers, the history is linearizable.
 pub fn write_then_read_law()
     ensures unanswered { (v : ℤ) → IsLinearizable register (key_marks 7 (write_then_open_read v)) }
     ensures its_value { (v : ℤ) → IsLinearizable register (key_marks 7 (write_then_read v v)) }
@@ -103,14 +103,14 @@ pub fn write_then_read_law()
         → ¬ IsLinearizable register (key_marks 7 (write_then_read v a)) }
 {}
 
-/// A pending write may have been read; if the write then fails, it may not.
+/// A read may answer the value of a pending write. If the write then fails, the history is not linearizable.
 pub fn pending_write_law()
     ensures pending { IsLinearizable register (key_marks 7 read_of_pending_write) }
     ensures failed { ¬ IsLinearizable register (key_marks 7 read_of_failed_write) }
 {}
 
-/// A crashed write may take place at any later moment: after a read that answers the value before it, a read may answer
-/// its value. It takes place once: after a read that answers its value, none answers the value before it.
+/// A crashed write may take place at any later moment. After a read of the previous value, a read may answer the value of the write. The
+/// write takes place only once: after a read of its value, no read answers the previous value.
 pub fn crashed_write_law()
     ensures later { IsLinearizable register
         (key_marks 7 (reads_after_crashed_write (pos 1) (pos 2))) }
@@ -118,27 +118,27 @@ pub fn crashed_write_law()
         (key_marks 7 (reads_after_crashed_write (pos 2) (pos 1))) }
 {}
 
-/// Two enqueues at once have five ends: none is included, either alone, or both in either order.
+/// Two concurrent enqueues have five ends: neither is contained, one of them is, or both are in either order.
 pub fn two_enqueues_law()
     ensures five { HasMoreThan fifo_queue (key_marks 1 two_enqueues) 4 }
     ensures not_six { ¬ HasMoreThan fifo_queue (key_marks 1 two_enqueues) 5 }
 {}
 
-/// Two enqueues at once, and then the ok of one: its five ends blow a budget of four at the ok's index, and not one of
-/// five.
+/// After two concurrent enqueues one of them has its ok. Their five ends exceed a budget of four at the index of this ok, and do not exceed
+/// a budget of five.
 pub fn blown_index_law()
     ensures four { IsBlownIndex fifo_queue 4 (key_entries 1 two_enqueues_then_ok) 2 }
     ensures five { IsWithinBudget fifo_queue 5 (key_entries 1 two_enqueues_then_ok) }
 {}
 
-/// If a key is over budget and nothing else is wrong, the verdict is Unknown, with the key and its index.
+/// If a key is over budget and nothing else is wrong, the verdict is Unknown, with this key and index.
 pub fn unknown_law()
     ensures { IsVerdict (λ key. ModelKind.FifoQueue) (λ key. 4)
         (all_entries two_enqueues_then_ok) (Verdict.Unknown 1 2) }
 {}
 
-/// Illegal comes before Unknown: if one key is over budget, a read of a value that nobody has written makes the verdict Illegal, with its
-/// own key and index.
+/// Illegal has priority over Unknown. One key is over budget, and a read of another key answers a value that was never written. The verdict
+/// is then Illegal, with the key and index of the read.
 pub fn illegal_before_unknown_law()
     ensures illegal { IsVerdict queue_at_one (λ key. 4)
         (all_entries bad_read_beside_blown) (Verdict.Illegal 2 4) }
@@ -146,7 +146,8 @@ pub fn illegal_before_unknown_law()
         (all_entries bad_read_beside_blown) (Verdict.Unknown key index) }
 {}
 
-/// The operations that count in an end: a crashed read has one end; and two, without it and with it, if each crashed operation counts.
+/// This law tests which crashed operations count in an end. A history of one crashed read has one end. If each crashed operation counted,
+/// it would have two: without the read and with it.
 pub fn what_counts_law()
     ensures one { HasMoreThan register (key_marks 7 crashed_read) 0 }
     ensures not_two { ¬ HasMoreThan register (key_marks 7 crashed_read) 1 }
@@ -154,8 +155,8 @@ pub fn what_counts_law()
     ensures not_three { ¬ HasMoreThanWithReads register (key_marks 7 crashed_read) 2 }
 {}
 
-/// The effect of setting crashed reads aside. There are never more ends than with them. A key that is over budget would be so with them, at
-/// the same index or earlier. If no key would be, the verdict is the same.
+/// Crashed reads do not count in ends. There are never more ends than if they counted. A key that is over budget would also be over budget
+/// with them, at the same index or earlier. If no key would be over budget with them, the verdict is the same.
 pub fn crashed_reads_law()
     ensures fewer { (kind : ModelKind) (marks : List Mark) (n : ℕ) →
         HasMoreThan (object_of kind) marks n → HasMoreThanWithReads (object_of kind) marks n }
@@ -173,13 +174,13 @@ pub fn crashed_reads_law()
         → IsVerdict kinds budgets entries v ↔ IsVerdictWithReads kinds budgets entries v }
 {}
 
-/// A cas takes place on a cas-register, and never on a plain register.
+/// A cas can take place on a cas-register, and never on a plain register.
 pub fn cas_law()
     ensures cas_register { IsLinearizable cas_register (key_marks 7 write_then_cas) }
     ensures register { ¬ IsLinearizable register (key_marks 7 write_then_cas) }
 {}
 
-/// While a process holds a mutex another one may wait for it, and not acquire it.
+/// While a process holds a mutex, another process may wait for it, but cannot acquire it.
 pub fn mutex_law()
     ensures waiting { IsLinearizable mutex (key_marks 4 acquire_while_held) }
     ensures held_twice { ¬ IsLinearizable mutex (key_marks 4 mutex_held_twice) }

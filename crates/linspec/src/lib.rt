@@ -1,10 +1,9 @@
-//! The meaning of a linearizable history: definitions, and laws that show that the definitions are right. Every verdict is proved by these
-//! definitions.
+//! The definition of a linearizable history, and laws that test this definition. Every verdict is proved by it.
 //!
-//! `specs/Orders.antt` has legal orders and linearizability, of one object and of many. `Ends.antt` has the ends of the legal orders of one
-//! key, and when there are more than a budget. `Counts.antt` has the count of each kind, and `Verdicts.antt` the status of a key and the
-//! join of all keys. `JudgedHistory.antt` has the same for a history of many keys with its kinds and budgets. [`brute`] computes
-//! linearizability by trying orders, for tests.
+//! `specs/Orders.antt` has legal orders and linearizability, for one object and for many. `Ends.antt` has the ends of the legal orders of
+//! one key, and when they exceed a budget. `Counts.antt` has the count of each kind. `Verdicts.antt` has the status of a key and the
+//! verdict for all keys. `JudgedHistory.antt` has the status and the verdict for a history of many keys with its kinds and budgets.
+//! [`brute`] computes linearizability by trying all orders, for tests.
 //!
 //! A call allocates only if its result can be `AllocError`, or a refusal because memory ran out.
 #![tactic(auto)]

@@ -3,11 +3,11 @@
 /// The status of one key.
 #[derive(Clone, Copy, Debug, PartialEq, Eq)]
 pub enum KeyStatus {
-    /// Every prefix of its history is linearizable, and its budget was never exceeded.
+    /// Every prefix of the key's history is linearizable, and its budget was never exceeded.
     Alive,
-    /// The event with this index ends the shortest front that is not linearizable.
+    /// The event with this index ends the shortest prefix of the key's history that is not linearizable.
     Dead(u32),
-    /// Just before the ok event with this index, more ends were possible than the budget allows, for the first time. The key may be alive
+    /// Just before the ok event with this index, the number of possible ends exceeded the budget for the first time. The key may be alive
     /// or dead.
     Over(u32),
 }
@@ -15,11 +15,12 @@ pub enum KeyStatus {
 /// The verdict on a history.
 #[derive(Clone, Copy, Debug, PartialEq, Eq)]
 pub enum Verdict {
-    /// Every prefix of the history is linearizable, and no key's budget was exceeded.
+    /// Every prefix of the history is linearizable, and no key exceeded its budget.
     Legal,
-    /// With the keys set aside whose budget was exceeded, the event of this key with this index ends the shortest front
-    /// that is not linearizable.
+    /// The event with this index, which is an event of this key, ends the shortest prefix that is not linearizable. Keys that exceeded
+    /// their budgets do not count.
     Illegal { key: u16, index: u32 },
-    /// The rest without those keys is linearizable; this key's budget was the first to be exceeded, at this index.
+    /// The history is linearizable without the keys that exceeded their budgets. This key was the first that exceeded its budget, at this
+    /// index.
     Unknown { key: u16, index: u32 },
 }

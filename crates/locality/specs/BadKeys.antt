@@ -1,4 +1,4 @@
--- Promise: on which keys a verdict depends
+-- Promise: the keys on which a verdict depends
 use Rattle.std.specs.Prelude.{◌↔◌, ℕ, List}
 use Rattle.std.specs.List.{Contains}
 use Rattle.linspec.specs.declared.verdict.KeyStatus.{KeyStatus}

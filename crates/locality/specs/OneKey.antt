@@ -11,7 +11,7 @@ use Rattle.linspec.specs.declared.verdict.Verdict.TheVariants.{Legal, Illegal, U
 abbrev pub IsOfKey : ℕ → List Entry → Type 0
 IsOfKey key entries = (e : Entry) → Contains entries e → e.key ≡ key
 
--- the verdict on a history of this key alone, by the key's status
+-- the verdict on a history of only this key, by the key's status
 abbrev pub verdict_of : ℕ → KeyStatus → Verdict
 verdict_of key Alive = Legal
 verdict_of key (Dead index) = Illegal key index

@@ -1,4 +1,4 @@
-//! One verdict from the statuses of all keys.
+//! The verdict on a history, from the statuses of its keys.
 ghost use Rattle.std.specs.Prelude.{ℕ, List, [], ◌∷◌, ◌++◌};
 ghost use Rattle.linspec.specs.declared.verdict.KeyStatus.{KeyStatus};
 ghost use Rattle.linspec.specs.Verdicts.{IsJoin};
@@ -6,10 +6,10 @@ ghost use Rattle.linspec.specs.Verdicts.{IsJoin};
 use linspec::{KeyStatus, Verdict};
 use models::Key;
 
-/// The verdict of a list of statuses: Illegal with the key and index of the least Dead. Without a Dead it is Unknown with
-/// the key and index of the least Over; else Legal. If the list has the status of each key of a history, once, this is
-/// the verdict on that history (`join_law`). Total, takes no memory, and the time of the list's length. (This project's
-/// own, on the locality of linearizability: Herlihy and Wing 1990, section 3.1.)
+/// Returns the verdict of a list of statuses. It is Illegal with the key and the index of the least Dead. Without a Dead it is Unknown with
+/// the key and the index of the least Over. Otherwise it is Legal. If the list has the status of each key of a history once, this is the
+/// verdict on the history (`join_law`). Total. Does not allocate. Costs O(statuses). (This project's own, based on the locality of
+/// linearizability: Herlihy and Wing 1990, section 3.1.)
 pub fn join(statuses: &[(Key, KeyStatus)]) -> Verdict
     ensures { IsJoin statuses.now result }
 {
@@ -20,8 +20,9 @@ pub fn join(statuses: &[(Key, KeyStatus)]) -> Verdict
     verdict
 }
 
-/// The verdict of a list of statuses with one more, from the verdict of that list. So it is kept up to date while keys come, and the
-/// statuses need not be read again. Without statuses the verdict is Legal (`no_keys_law`). Total, takes no memory, and constant time.
+/// Returns the verdict of a list of statuses with the status of `key` added. `verdict` is the verdict of the list before. So a caller can
+/// keep a verdict up to date without reading all statuses again. The verdict of an empty list is Legal (`no_keys_law`). Total. Does not
+/// allocate. Takes constant time.
 pub fn join_with(verdict: Verdict, key: Key, status: KeyStatus) -> Verdict
     ensures { (statuses : List (ℕ × KeyStatus)) → IsJoin statuses verdict
         → IsJoin (statuses ++ (key, status) ∷ []) result }
@@ -33,7 +34,7 @@ pub fn join_with(verdict: Verdict, key: Key, status: KeyStatus) -> Verdict
     }
 }
 
-// The verdict of a list with one more dead key.
+// Returns the verdict of a list after a dead key is added.
 fn with_dead(verdict: Verdict, key: Key, index: u32) -> Verdict
     ensures { (statuses : List (ℕ × KeyStatus)) → IsJoin statuses verdict
         → IsJoin (statuses ++ (key, KeyStatus.Dead index) ∷ []) result }
@@ -51,7 +52,7 @@ fn with_dead(verdict: Verdict, key: Key, index: u32) -> Verdict
     }
 }
 
-// The verdict of a list with one more key over budget.
+// Returns the verdict of a list after a key over budget is added.
 fn with_over(verdict: Verdict, key: Key, index: u32) -> Verdict
     ensures { (statuses : List (ℕ × KeyStatus)) → IsJoin statuses verdict
         → IsJoin (statuses ++ (key, KeyStatus.Over index) ∷ []) result }

@@ -1,4 +1,4 @@
-//! Laws of histories of many keys.
+//! Laws about histories of many keys.
 ghost use Rattle.std.specs.Prelude.{◌↔◌, ℕ, Bool, List, []};
 ghost use Rattle.models.specs.declared.operation.Op.{Op};
 ghost use Rattle.kinds.specs.declared.model_kind.ModelKind.{ModelKind};
@@ -13,7 +13,7 @@ ghost use Rattle.linspec.specs.Verdicts.{IsVerdict, IsVerdictBy, IsRising, IsKey
 ghost use Rattle.locality.specs.OneKey.{IsOfKey, verdict_of};
 ghost use Rattle.locality.specs.BadKeys.{HaveSameBadKeys};
 
-/// Locality: a history is linearizable exactly if each key's part of it is (Herlihy and Wing 1990, section 3.1).
+/// Locality: a history is linearizable if and only if the part of each key is linearizable (Herlihy and Wing 1990, section 3.1).
 pub fn locality_law()
     ensures { (kinds : ℕ → ModelKind) (entries : List Entry) →
         IsKeyed entries → AreWellFormed (marks entries)
@@ -21,8 +21,8 @@ pub fn locality_law()
         ↔ ((k : ℕ) → IsLinearizable (object_of (kinds k)) (marks (of_key k entries))) }
 {}
 
-/// The verdict on the whole history is the join of its keys' statuses: for a list with the status of each key, once, the promise of
-/// `join` is the verdict.
+/// The verdict on a history is the join of its keys' statuses. A list must have the status of each key once; then the result of `join` is
+/// the verdict.
 pub fn join_law()
     ensures { (kinds : ℕ → ModelKind) (budgets : ℕ → ℕ) (entries : List Entry)
         (statuses : List (ℕ × KeyStatus)) (v : Verdict) →
@@ -31,7 +31,7 @@ pub fn join_law()
         → IsVerdict kinds budgets entries v }
 {}
 
-/// The same, whichever crashed operations count among the ends.
+/// The verdict on a history is the join of its keys' statuses, whichever crashed operations count among the ends.
 pub fn join_law_by()
     ensures { (counts : Op → Bool) (kinds : ℕ → ModelKind) (budgets : ℕ → ℕ)
         (entries : List Entry) (statuses : List (ℕ × KeyStatus)) (v : Verdict) →
@@ -40,8 +40,8 @@ pub fn join_law_by()
         → IsVerdictBy (CountsMoreThanBy counts) kinds budgets entries v }
 {}
 
-/// Where all operations are of one key, the verdict is that key's status; if there is none, it is Legal; whichever
-/// crashed operations count.
+/// If all operations are on one key, the verdict is that of the key's status. If there are no operations, the verdict is Legal. Both hold
+/// whichever crashed operations count.
 pub fn one_key_law()
     ensures one { (counts : Op → Bool) (kinds : ℕ → ModelKind) (budgets : ℕ → ℕ) (key : ℕ)
         (entries : List Entry) (status : KeyStatus) → let more = CountsMoreThanBy counts in
@@ -57,8 +57,8 @@ pub fn no_keys_law()
     ensures { IsJoin [] Verdict.Legal }
 {}
 
-/// The verdict of a list of statuses depends on its dead and its over keys alone. It does not depend on the keys that are alive, on the
-/// order, or on how often a pair is there.
+/// The verdict of a list of statuses depends only on its dead keys and its keys over budget. It does not depend on the keys that are alive,
+/// on the order, or on repetitions.
 pub fn bad_keys_law()
     ensures { (xs ys : List (ℕ × KeyStatus)) (v : Verdict) →
         HaveSameBadKeys xs ys → IsJoin xs v → IsJoin ys v }

@@ -3,14 +3,19 @@ use Rattle.std.proofs.Common.{◌≡◌, ℤ, Bool, true, false, if◌then◌els
 use Rattle.std.specs.Ordering.{int_eq}
 use Rattle.models.specs.declared.operation.Op.{Op}
 use Rattle.models.specs.declared.operation.Name.{Name}
-use Rattle.models.specs.declared.operation.Name.TheVariants.{Read, Write, Cas, Acquire, Release, Enqueue, Dequeue, Add}
+use Rattle.models.specs.declared.operation.Name.TheVariants.{Read, Write, Cas, Acquire, Release, Enqueue, Dequeue, Add, Own as OwnName}
 use Rattle.models.specs.declared.operation.Part.{Part}
 use Rattle.models.specs.declared.operation.Part.TheVariants.{Nil, Int, Pair}
 use Rattle.models.specs.declared.finding.Found.{Found}
 use Rattle.models.specs.declared.finding.Found.TheVariants.{Unit as Nothing, Reg, Item, Elements}
 use Rattle.models.specs.Objects.{IsOneOf, register_apply, cas_register_apply, mutex_apply, queue_apply, set_apply, taken_from, unordered_apply}
+use Rattle.rules.specs.declared.finding.Found.{Found as FoundByRules}
+use Rattle.rules.specs.declared.finding.Found.TheVariants.{Anything, Exactly, OrNil}
+use Rattle.rules.specs.declared.rules.Rules.{Rules}
+use Rattle.rules.specs.Meaning.{State}
+use Rattle.objects.specs.Own.{number_of, given_by, found_by, outcome_by, can_be_told, listed, rules_apply}
 use Rattle.kinds.specs.declared.model_kind.ModelKind.{ModelKind}
-use Rattle.kinds.specs.declared.model_kind.ModelKind.TheVariants.{Register, CasRegister, Mutex, FifoQueue, Set as SetOfNumbers, UnorderedQueue, WideRegister, WideCasRegister, WideSet, WideFifoQueue, WideUnorderedQueue}
+use Rattle.kinds.specs.declared.model_kind.ModelKind.TheVariants.{Register, CasRegister, Mutex, FifoQueue, Set as SetOfNumbers, UnorderedQueue, WideRegister, WideCasRegister, WideSet, WideFifoQueue, WideUnorderedQueue, Own}
 use Rattle.kinds.specs.Kinds.{object_of}
 use Rattle.values.specs.Multisets.{with_one, without_one, values_of}
 use Rattle.machine.specs.Trials.{Answers}
@@ -64,6 +69,46 @@ unordered_answers Enqueue (Int v) s t found h = subst (Answers Enqueue (Int v)) 
 unordered_answers Dequeue Nil s t found h = taken_answers s (values_of s) t found h
 unordered_answers name part s t found h = absurd h
 
+-- what an event can say is an answer
+told_answers : (name : Name) (part : Part) (found : FoundByRules) → can_be_told name part found ≡ true → Answers name part (found_by found)
+told_answers Read Nil Anything e = (tt, tt)
+told_answers Read Nil (Exactly None) e = (tt, tt)
+told_answers Read Nil (Exactly (Some v)) e = (tt, tt)
+told_answers Read Nil (OrNil v) e = (tt, tt)
+told_answers Dequeue Nil (Exactly (Some v)) e = (tt, tt)
+told_answers Dequeue Nil (OrNil v) e = (tt, tt)
+told_answers Write (Int v) Anything e = (tt, refl)
+told_answers Cas (Pair a b) Anything e = (tt, refl)
+told_answers Acquire Nil Anything e = (tt, refl)
+told_answers Release Nil Anything e = (tt, refl)
+told_answers Enqueue (Int v) Anything e = (tt, refl)
+told_answers Add (Int v) Anything e = (tt, refl)
+told_answers (OwnName number) Nil Anything e = (tt, tt)
+told_answers (OwnName number) Nil (Exactly None) e = (tt, tt)
+told_answers (OwnName number) Nil (Exactly (Some v)) e = (tt, tt)
+told_answers (OwnName number) Nil (OrNil v) e = (tt, tt)
+told_answers (OwnName number) (Int a) Anything e = (tt, tt)
+told_answers (OwnName number) (Int a) (Exactly None) e = (tt, tt)
+told_answers (OwnName number) (Int a) (Exactly (Some v)) e = (tt, tt)
+told_answers (OwnName number) (Int a) (OrNil v) e = (tt, tt)
+told_answers (OwnName number) (Pair a b) Anything e = (tt, tt)
+told_answers (OwnName number) (Pair a b) (Exactly None) e = (tt, tt)
+told_answers (OwnName number) (Pair a b) (Exactly (Some v)) e = (tt, tt)
+told_answers (OwnName number) (Pair a b) (OrNil v) e = (tt, tt)
+told_answers _ _ _ e = absurd (cc e)
+
+listed_if : (name : Name) (part : Part) (outcome : State × FoundByRules) (said : Bool) → can_be_told name part outcome.1 ≡ said → (t : State) (found : Found)
+    → IsOneOf {X = State × Found} (if said then (outcome.0, found_by outcome.1) ∷ [] else []) (t, found) → Answers name part found
+listed_if name part outcome true told t found h = subst (Answers name part) (finds outcome.0 t (found_by outcome.1) found h) (told_answers name part outcome.1 told)
+listed_if name part outcome false told t found h = absurd h
+
+listed_answers : (name : Name) (part : Part) (outcome : Option (State × FoundByRules)) (t : State) (found : Found) → IsOneOf {X = State × Found} (listed name part outcome) (t, found) → Answers name part found
+listed_answers name part None t found h = absurd h
+listed_answers name part (Some outcome) t found h = listed_if name part outcome (can_be_told name part outcome.1) refl t found h
+
+rules_answers : (rules : Rules) (s t : State) (op : Op) (found : Found) → IsOneOf {X = State × Found} (rules_apply rules op s) (t, found) → Answers op.name op.part found
+rules_answers rules s t op found h = listed_answers op.name op.part (outcome_by rules (number_of op.name) (given_by op.part) s) t found h
+
 pub answers : (kind : ModelKind) (s t : (object_of kind).State) (op : Op) (found : Found) → (object_of kind).Steps s op found t → Answers op.name op.part found
 answers Register s t op found h = register_answers op.name op.part s t found h
 answers CasRegister s t op found h = cas_register_answers op.name op.part s t found h
@@ -76,3 +121,4 @@ answers WideCasRegister s t op found h = cas_register_answers op.name op.part s 
 answers WideSet s t op found h = set_answers op.name op.part s t found h
 answers WideFifoQueue s t op found h = queue_answers op.name op.part s t found h
 answers WideUnorderedQueue s t op found h = unordered_answers op.name op.part s t found h
+answers (Own object) s t op found h = rules_answers object.now.rules s t op found h

@@ -2,7 +2,7 @@
 use Rattle.std.proofs.Common.{ℕ, ℤ, inl, Option, Some, None, List, [], ◌∷◌, false, refl, arith}
 use Rattle.models.specs.declared.finding.Found.TheVariants.{Unit as Nothing}
 use Rattle.kinds.specs.declared.any_state.AnyState.TheVariants.{Register as OfRegister}
-use Rattle.kinds.specs.declared.model_kind.ModelKind.TheVariants.{Register, CasRegister, Mutex, FifoQueue, Set, UnorderedQueue, WideRegister, WideCasRegister, WideSet, WideFifoQueue, WideUnorderedQueue}
+use Rattle.kinds.specs.declared.model_kind.ModelKind.TheVariants.{Register, CasRegister, Mutex, FifoQueue, Set, UnorderedQueue, WideRegister, WideCasRegister, WideSet, WideFifoQueue, WideUnorderedQueue, Own}
 use Rattle.events.specs.declared.event.Event.{Event}
 use Rattle.events.specs.declared.event.Fault.TheVariants.{Pause, LoseReplies}
 use Rattle.test_store.specs.declared.held.Held.{Held}
@@ -30,6 +30,7 @@ comes v WideCasRegister s is = cc
 comes v WideSet s is = cc
 comes v WideFifoQueue s is = cc
 comes v WideUnorderedQueue s is = cc
+comes v (Own object) s is = cc
 
 -- the row that it leaves
 abbrev after_write : ℤ → List Held

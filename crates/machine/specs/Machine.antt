@@ -1,4 +1,4 @@
--- Promise: the one-thread object with all its commands: its state, and what each may answer (this project's own)
+-- Promise: the one-thread object with all its commands: its state, and the possible answers (this project's own)
 use Rattle.std.specs.Prelude.{◌≡◌, ℕ, zero, suc, ◌+◌, ◌-◌, ◌%◌, ◌^◌, ◌<◌, ◌≤◌, Bool, true, false, nat_lt, if◌then◌else◌, not, is_some, Option, Some, None, IsSome, Result, Ok, Err, List, [], ◌∷◌, ◌++◌, length, map, slice_get, slice_set, ◌⊎◌}
 use Rattle.std.specs.List.{filter_map}
 use Rattle.edn.specs.declared.refusal.Refusal.{Refusal}
@@ -38,15 +38,15 @@ pub record Machine : Type 0 where
   pub generator : Generator
   pub seed : ℕ
   pub place : ℕ
-  -- the faults that are still to come, each with the length of the history from which it is due
+  -- the faults of the schedule that have not struck, each with the length of the history from which it is due
   pub schedule : List (ℕ × Fault)
   pub store : Cluster
-  -- the operations that were drawn, in order: a ticket's number is its place
+  -- the drawn operations, in order: the number of a ticket is its place here
   pub tickets : List Ticket
 
 -- The opening
 
--- how it is opened: threads, the kind and the budget of a key for which none is set, the generator, the schedule of faults, and the store
+-- the opening: threads, the default kind and budget of a key, the generator, the schedule of faults, and the store
 pub record Setup : Type 0 where
   pub concurrency : ℕ
   pub kind : ModelKind
@@ -74,18 +74,18 @@ opening setup = record {
 abbrev pub most_tickets : ℕ
 most_tickets = 2 ^ 32 - 1
 
--- the ticket with this number, which is not stale; there is none
+-- the ticket with this number, which is not stale; or no such ticket
 abbrev pub HasTicket : List Ticket → ℕ → Ticket → Type 0
 HasTicket tickets number t = (slice_get tickets number ≡ Some t) × (t.stale ≡ false)
 
 abbrev pub HasNoTicket : List Ticket → ℕ → Type 0
 HasNoTicket tickets number = (t : Ticket) → slice_get tickets number ≡ Some t → t.stale ≡ true
 
--- the ticket with this number, which is not stale, is such a one
+-- the ticket with this number is not stale and satisfies P
 abbrev pub IsTicketAnd : Machine → ℕ → (Ticket → Type 0) → Type 0
 IsTicketAnd m number P = (t : Ticket) × HasTicket m.tickets number t × P t
 
--- a rewind makes the tickets stale whose invocation it cuts
+-- a rewind makes a ticket stale if it cuts the ticket's invocation
 abbrev pub stale_from : ℕ → Ticket → Ticket
 stale_from n t = if nat_lt t.index n then t else record t { stale = true }
 
@@ -106,12 +106,12 @@ invoked_by thread process op m = record (appended (invocation process op) m) {
   tickets = m.tickets ++ fresh_ticket thread process op m.judged.events ∷ [];
 }
 
--- a ticket was served, which left this store
+-- the machine after a serve of the ticket with this outcome, and with the store after it
 abbrev pub with_served : ℕ → Ticket → Outcome → Cluster → Machine → Machine
 with_served number t outcome after m =
     record m { store = after; tickets = slice_set m.tickets number (served_as outcome t) }
 
--- a fault strikes, and is an event
+-- the machine after a fault has struck, which is also an event
 abbrev pub struck_by : Fault → Machine → Machine
 struck_by fault m = record (appended (strike fault) m) { store = after_fault fault m.store }
 
@@ -126,7 +126,7 @@ idle_from c events t (suc n) =
 abbrev pub idle_threads : JudgedHistory → List Bool
 idle_threads h = idle_from h.concurrency h.events 0 h.concurrency
 
--- the generator may answer the asker so, which leads to the machine after it
+-- the generator may give the asker this answer, and `after` is the machine after it
 abbrev pub Gives : Machine → Asker → Drawn → Machine → Type 0
 Gives m asker drawn after =
     (g : Generator) × (p : ℕ)
@@ -141,8 +141,8 @@ abbrev pub HasOperation : Machine → ℕ → Type 0
 HasOperation m thread =
     (op : Op) × (after : Machine) × Gives m (Thread thread) (Gets (AnOp op)) after
 
--- the fault that strikes next, and the machine that is without it: the first of the schedule, if it is due, else one
--- that the nemesis draws
+-- the fault that strikes next, and the machine without it: the first fault of the schedule, if it is due, else a fault that the nemesis
+-- draws
 abbrev pub NextFault : Machine → Fault → Machine → Type 0
 NextFault m fault after =
     ((first_due m ≡ Some fault) × (after ≡ record m { schedule = after_first m.schedule }))
@@ -151,7 +151,7 @@ NextFault m fault after =
 abbrev pub HasFault : Machine → Type 0
 HasFault m = (fault : Fault) × (after : Machine) × NextFault m fault after
 
--- there is none
+-- no fault is due, and the nemesis draws none
 abbrev pub HasNoFault : Machine → Type 0
 HasNoFault m =
     (first_due m ≡ None)
@@ -175,7 +175,7 @@ ThreadMayDraw m thread =
 abbrev pub Takes : Machine → Event → Type 0
 Takes m event = IsWellFormed m.judged.concurrency m.judged.events event
 
--- the command may be answered so, which leads from the old machine to the new
+-- the command may have this reply, and leads from the old machine to the new one
 abbrev pub Replies : Machine → Command → Reply → Machine → Type 0
 Replies old (Append event) (Says v) new =
     Takes old event × (new ≡ appended event old) × IsVerdictOn new.judged v
@@ -211,7 +211,7 @@ Replies old Nemesis (Struck fault index) new =
     × (new ≡ struck_by fault after))
 Replies old command reply new = ⊥
 
--- the command is refused, by the first test that it does not pass
+-- the refusal of a command, by the first test that it fails
 abbrev pub Refuses : Machine → Command → Refusal → Type 0
 Refuses m (Append event) why = history.Refuses m.judged.concurrency m.judged.events event why
 Refuses m (Rewind n) NoSuchIndex = length m.judged.events < n
@@ -238,19 +238,19 @@ Refuses m Nemesis Idle = HasNoFault m
 Refuses m Nemesis HistoryFull = HasFault m × ¬ HasRoom m.judged.events
 Refuses m command why = ⊥
 
--- the command may be answered so, or refused for this. A refusal changes nothing
+-- the command may have this answer. A refusal changes nothing
 abbrev pub MayStep : Machine → Command → Result Reply Refusal → Machine → Type 0
 MayStep old command (Ok reply) new = Replies old command reply new
 MayStep old command (Err why) new = Refuses old command why × (new ≡ old)
 
 -- Runs
 
--- the commands, each with its answer, lead from the one machine to the other
+-- the commands, with these answers, lead from m to `end`
 abbrev pub Runs : Machine → List (Command × Result Reply Refusal) → Machine → Type 0
 Runs m [] end = m ≡ end
 Runs m (x ∷ run) end = (next : Machine) × MayStep m x.0 x.1 next × Runs next run end
 
--- the ticket whose operation takes place, if one does: a serve that is done or loses its reply
+-- the ticket whose operation takes place, if there is one: a serve that is done or loses its reply
 abbrev pub served_by : Command → Reply → Option ℕ
 served_by (Serve number) (Served (WasDone found)) = Some number
 served_by (Serve number) (Served Lost) = Some number
@@ -264,7 +264,7 @@ served_ticket command (Err why) = None
 abbrev pub serves_in : List (Command × Result Reply Refusal) → List ℕ
 serves_in run = filter_map (λ x. served_ticket x.0 x.1) run
 
--- commands of a trial: no events of others, no rewinds and no changes of model
+-- a command of a trial: no append, no rewind and no change of a model
 abbrev pub IsOfTrial : Command → Type 0
 IsOfTrial (Append event) = ⊥
 IsOfTrial (Rewind n) = ⊥

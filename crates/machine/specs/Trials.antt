@@ -1,5 +1,5 @@
--- Promise: a trial: clients draw operations, have them served by the store and finish them, while faults strike. It is what
--- history, store and tickets go through in any run (this project's own; histories are those of the Jepsen documentation)
+-- Promise: a trial: clients draw operations, the store serves them, and the clients finish them, while faults strike. Each run leads
+-- history, store and tickets through a trial (this project's own; histories are those of the Jepsen documentation)
 use Rattle.std.specs.Prelude.{◌≡◌, ℕ, false, ◌%◌, Option, Some, None, List, [], ◌∷◌, ◌++◌, length, slice_get, slice_set}
 use Rattle.std.specs.List.{filter_map}
 use Rattle.models.specs.declared.operation.Op.{Op}
@@ -26,14 +26,14 @@ use Rattle.test_store.specs.Store as store
 use Rattle.test_store.specs.Store.{Cluster, MayServe, after_fault}
 use Rattle.machine.specs.declared.ticket.Ticket.{Ticket}
 
--- the history so far, for `concurrency` threads, the store, and the operations that were drawn
+-- the history so far, of `concurrency` threads, the store, and the drawn operations
 pub record Trial : Type 0 where
   pub concurrency : ℕ
   pub events : List Event
   pub store : Cluster
   pub tickets : List Ticket
 
--- at first nothing has happened, and the store is strict
+-- the start: no event, and a strict store
 abbrev pub opening : ℕ → ℕ → ModelKind → Trial
 opening concurrency replicas kind = record {
   concurrency = concurrency;
@@ -52,7 +52,7 @@ invocation process op = record {
   body = AnOp op;
 }
 
--- the part of an ok: the answer, or, if there is none, the part of the invocation
+-- the part of an ok: the answer; without an answer, the part of the invocation
 abbrev pub part_of : Found → Part → Part
 part_of Nothing part = part
 part_of (Reg None) part = Nil
@@ -60,8 +60,8 @@ part_of (Reg (Some v)) part = Int v
 part_of (Item v) part = Int v
 part_of (Elements members) part = Set members
 
--- how an operation completes after this outcome of its serve: done, it returns with its answer; refused, it fails; with its reply lost, it
--- crashes
+-- the completion of an operation after this outcome of its serve. Done: an ok with its answer; Refused: a fail; Lost (the reply is lost):
+-- an info
 abbrev pub completion : ℕ → Op → Outcome → Event
 completion process op (Done found) = record {
   index = None;
@@ -90,13 +90,13 @@ strike fault = record { index = None; kind = Info; process = Nemesis; body = AFa
 pub data Move : Type 0 where
   -- a thread draws an operation
   Draws : ℕ → Op → Move
-  -- the ticket with this number is served, which comes to this
+  -- the ticket with this number is served with this outcome
   Serves : ℕ → Outcome → Move
-  -- it is finished
+  -- the operation of the ticket with this number is finished
   Finishes : ℕ → Move
   -- a fault strikes
   Strikes : Fault → Move
-  -- nothing of a trial changes, as where a budget is set or a command is refused
+  -- nothing of a trial changes: a budget is set, or a command is refused
   Stays : Move
 
 -- the ticket's operation is open
@@ -129,7 +129,7 @@ MayBeDrawn old thread op new =
       tickets = old.tickets ++ fresh_ticket thread process op old.events ∷ [];
     })
 
--- an operation that is open and was not served is served, at the entry of its thread
+-- an operation that is open and not yet served is served, at the entry of its thread
 abbrev pub MayBeServed : Trial → ℕ → Outcome → Trial → Type 0
 MayBeServed old number outcome new =
     (t : Ticket) × (slice_get old.tickets number ≡ Some t)
@@ -140,7 +140,7 @@ MayBeServed old number outcome new =
       tickets = slice_set old.tickets number (served_as outcome t);
     }))
 
--- an operation that is open and was served is completed as that came out
+-- an operation that is open and served is completed with the outcome of its serve
 abbrev pub MayBeFinished : Trial → ℕ → Trial → Type 0
 MayBeFinished old number new =
     (t : Ticket) × (outcome : Outcome) × (slice_get old.tickets number ≡ Some t)
@@ -157,12 +157,12 @@ MayMove old (Strikes fault) new =
     × (new ≡ record (with_event (strike fault) old) { store = after_fault fault old.store })
 MayMove old Stays new = new ≡ old
 
--- the moves lead from one trial to the other
+-- the moves lead from m to `end`
 abbrev pub Leads : Trial → List Move → Trial → Type 0
 Leads m [] end = m ≡ end
 Leads m (move ∷ moves) end = (next : Trial) × MayMove m move next × Leads next moves end
 
--- the ticket whose operation takes place in the move, if one does: a serve that is done or loses its reply
+-- the ticket whose operation takes place in the move, if there is one: a serve that is done or loses its reply
 abbrev pub took_place : Move → Option ℕ
 took_place (Serves number (Done found)) = Some number
 took_place (Serves number Lost) = Some number
@@ -172,7 +172,7 @@ took_place move = None
 abbrev pub serves_of : List Move → List ℕ
 serves_of moves = filter_map took_place moves
 
--- the operations of an order are those of these tickets, in turn
+-- the operations of the order are those of these tickets, one after another
 abbrev pub AreOfTickets : List Ticket → List ℕ → List Taken → Type 0
 AreOfTickets tickets [] [] = Unit {0}
 AreOfTickets tickets (number ∷ numbers) (x ∷ order) =
@@ -183,7 +183,7 @@ AreOfTickets tickets numbers order = ⊥
 abbrev pub entries_in : Trial → List Entry
 entries_in m = entries_of (indexed_from 0 m.events)
 
--- the value that was found makes an ok of the operation that the tables and the process rule allow
+-- an ok with the found value is permitted by the tables and by the process rule
 abbrev pub Answers : Name → Part → Found → Type 0
 Answers name part found =
     IsOkPart name (part_of found part) × IsRepeat Ok name part (part_of found part)

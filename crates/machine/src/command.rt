@@ -1,4 +1,4 @@
-//! Commands of a `Core`, and its replies.
+//! The commands of the one-thread object, and its replies.
 use events::{Event, Fault};
 use kinds::ModelKind;
 use linspec::Verdict;
@@ -8,36 +8,36 @@ use test_store::Outcome;
 /// The commands of the one-thread object.
 #[derive(Drop)]
 pub enum Command {
-    /// An event comes next in the history.
+    /// Appends an event to the history.
     Append(Event),
-    /// The history is cut to its first n events.
+    /// Cuts the history to its first n events.
     Rewind(u32),
-    /// A key is an object of this kind.
+    /// Makes a key an object of this kind.
     SetModel(Key, ModelKind),
-    /// How many ends of a key may be possible just before an ok, 1 to 65,536.
+    /// Sets the budget of a key, 1 to 65,536: the maximum number of its ends just before an ok.
     SetBudget(Key, u32),
-    /// The verdict is asked for.
+    /// Asks for the verdict.
     Verdict,
-    /// A thread draws an operation.
+    /// Lets a thread draw an operation.
     Draw(u32),
-    /// The operation of a ticket is carried out on the store.
+    /// Carries out the operation of a ticket on the store.
     Serve(u32),
-    /// The operation of a ticket is completed.
+    /// Completes the operation of a ticket.
     Finish(u32),
-    /// The nemesis strikes.
+    /// Lets the nemesis strike.
     Nemesis,
 }
 
-/// What it says.
+/// The reply to a command.
 #[derive(Drop)]
 pub enum Reply {
     /// The verdict on the history after the command.
     Verdict(Verdict),
-    /// The ticket of the operation that was drawn, and the index of its invocation.
+    /// The ticket of the drawn operation, and the index of its invocation.
     Drawn { ticket: u32, index: u32 },
     /// There is no operation for the thread now, but there may be one later.
     Pending,
-    /// There is none for it, now or later.
+    /// There is no operation for the thread, now or later.
     Done,
     /// The outcome of the serve.
     Served(Outcome),

@@ -1,4 +1,4 @@
-//! Laws of the one-thread object.
+//! Laws about the one-thread object.
 ghost use Rattle.std.specs.Prelude.{◌≡◌, ◌↔◌, ◌≤◌, ℕ, List, [], length, Result, Some, option_map};
 ghost use Rattle.edn.specs.declared.refusal.Refusal.{Refusal};
 ghost use Rattle.processes.specs.MoveRule.{current_of};
@@ -19,10 +19,10 @@ ghost use Rattle.linspec.specs.JudgedHistory.{kind_of, entries_in, IsVerdictOn};
 ghost use Rattle.machine.specs.Machine.{Machine, Setup, opening, most_tickets, MayStep, Runs, serves_in, AreOfTrial};
 ghost use Rattle.machine.specs.Tickets.{served_of, StandsFor, IsAnswered, AreTickets};
 
-/// No false alarm. After an opening with a strict store and any draws, serves, finishes, faults, budgets and questions, also refused ones,
-/// the history is linearizable (Herlihy and Wing 1990). This holds over all keys together: the serves that took place are a legal order of
-/// it. So no verdict on it is Illegal. `Core::step` of `harness` cites this law, and so do the laws `no_false_alarm_on_a_tape` of `board`
-/// and `no_false_alarm_in_a_run` of `clients`.
+/// No false alarm. The object is opened with a strict store, and gets any draws, serves, finishes, faults, budgets and questions, including
+/// refused ones. Then its history is linearizable (Herlihy and Wing 1990), over all keys together: the serves that took place are a legal
+/// order of it. So no verdict on it is Illegal. `Core::step` of `harness` cites this law, and so do the laws `no_false_alarm_on_a_tape` of
+/// `board` and `no_false_alarm_in_a_run` of `clients`.
 pub fn no_false_alarm()
     ensures order { (setup : Setup) (run : List (Command × Result Reply Refusal))
         (m : Machine) → setup.mode ≡ Strict → IsCount setup.replicas → AreOfTrial run
@@ -40,15 +40,15 @@ pub fn no_false_alarm()
         → ¬ IsVerdictOn m.judged (Verdict.Illegal key index) }
 {}
 
-/// A command has one outcome at most, and leads to one machine. The law `one_reply` of `script_command` rests on it.
+/// A command has at most one outcome, and leads to at most one machine. The law `one_reply` of `script_command` depends on this law.
 pub fn one_step()
     ensures { (old new next : Machine) (command : Command) (outcome other : Result Reply Refusal)
         → MayStep old command outcome new → MayStep old command other next
         → (outcome ≡ other) × (new ≡ next) }
 {}
 
-/// The events are a history, each well-formed after those before it: at the opening, and after each step. No call rests on
-/// it.
+/// The events are a history at the opening and after each step: each is well-formed after the events before it. No call depends on this
+/// law.
 pub fn history_law()
     ensures opening { (setup : Setup) →
         IsHistoryOf setup.concurrency (opening setup).judged.events }
@@ -58,8 +58,8 @@ pub fn history_law()
         → IsHistoryOf new.judged.concurrency new.judged.events }
 {}
 
-/// No version of the store is greater than the number of served tickets, and there are fewer than 2^32 of these. So a serve never needs a
-/// version above the greatest u64, and `harness` depends on it.
+/// No version of the store exceeds the number of served tickets, and fewer than 2^32 tickets are served. So a serve never needs a version
+/// above the greatest `u64`. `harness` depends on this law.
 pub fn counted_law()
     ensures opening { (setup : Setup) →
         VersionsWithin (opening setup).store (served_of (opening setup).tickets) }
@@ -72,9 +72,9 @@ pub fn counted_law()
         → length new.tickets ≤ most_tickets }
 {}
 
-/// At the opening and after each step, each ticket that is not stale has its invocation, and its operation can be completed by the outcome
-/// of its serve. So the index shows whether the operation is still open, and a completion of an open operation is well-formed if there is
-/// room. `harness` needs this law to serve and to finish.
+/// At the opening and after each step, this holds for each ticket that is not stale. It has its invocation, and the outcome of its serve
+/// can complete its operation. So the index shows whether the operation is still open, and a completion of an open operation is well-formed
+/// if there is room. `harness` needs this law to serve and to finish.
 pub fn tickets_law()
     ensures opening { (c : ℕ) → AreTickets c [] [] }
     ensures step { (old new : Machine) (command : Command) (outcome : Result Reply Refusal)

@@ -1,6 +1,6 @@
-//! Types and laws of the one-thread object, without its code, which `harness` has. They are all its commands and replies, as a relation,
-//! and below it the effects of clients and faults on history, store and tickets (trials). Among the laws: one outcome a command, and a
-//! strict store raises no false alarm.
+//! Types and laws of the one-thread object, without its code, which is in `harness`. A relation defines all its commands and replies. A
+//! second relation, that of trials, defines the effects of clients and faults on history, store and tickets. Two of the laws: a command has
+//! at most one outcome, and a strict store raises no false alarm.
 #![tactic(auto)]
 
 pub mod command;

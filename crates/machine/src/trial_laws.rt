@@ -1,4 +1,4 @@
-//! Laws of trials: a strict store raises no false alarm.
+//! Laws about trials: a strict store raises no false alarm.
 ghost use Rattle.std.specs.Prelude.{ℕ, ℤ, List};
 ghost use Rattle.models.specs.declared.operation.Op.{Op};
 ghost use Rattle.models.specs.declared.finding.Found.{Found};
@@ -13,8 +13,8 @@ ghost use Rattle.machine.specs.Trials.{Answers, Trial, Move, opening, Leads, ser
 ghost use Rattle.machine.specs.Examples.{IsDoneTrial, IsLostTrial, IsRefusedTrial};
 
 /// No false alarm. If the store is strict, the history after any moves from the opening is linearizable (Herlihy and Wing 1990), over all
-/// keys together. The serves that took place are a legal order of it. So no verdict on it is Illegal, with any budgets, and so with any
-/// keys set aside. The law [`no_false_alarm`](crate::no_false_alarm) says the same of the one-thread object.
+/// keys together. The serves that took place are a legal order of it. So no verdict on it is Illegal, with any budgets, and so without any
+/// keys over budget. The law [`no_false_alarm`](crate::no_false_alarm) says the same of the one-thread object.
 pub fn no_trial_is_a_false_alarm()
     ensures order { (c n : ℕ) (kind : ModelKind) (moves : List Move) (m : Trial)
         → IsCount n → Leads (opening c n kind) moves m
@@ -31,14 +31,14 @@ pub fn no_trial_is_a_false_alarm()
 {}
 
 /// If an operation takes place in an object, its answer makes an ok that the tables and the process rule allow. So a served operation that
-/// is open can be completed wherever the history has room. The law [`tickets_law`](crate::tickets_law) rests on it.
+/// is open can be completed if the history has room. The law [`tickets_law`](crate::tickets_law) depends on this law.
 pub fn answers_law()
     ensures { (kind : ModelKind) (s t : (object_of kind).State) (op : Op) (found : Found)
         → (object_of kind).Steps s op found t → Answers op.name op.part found }
 {}
 
-/// There are trials: in one a write returns, in one its reply is lost, and in one it is refused. So the laws of all trials are about some.
-/// No call depends on this law.
+/// Trials exist: in one a write returns, in one its reply is lost, and in one it is refused. So the laws about all trials are not empty. No
+/// call depends on this law.
 pub fn trials_law()
     ensures done { (v : ℤ) → IsDoneTrial v }
     ensures lost { (v : ℤ) → IsLostTrial v }

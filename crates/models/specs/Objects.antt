@@ -15,15 +15,15 @@ use Rattle.models.specs.declared.finding.Answer.TheVariants.{Nothing, Number, Nu
 use Rattle.values.specs.Members.{put_in}
 use Rattle.values.specs.Multisets.{with_one, without_one, values_of}
 
--- an object: its states, the one it starts in, and its steps. Steps s op found t: in state s the operation can take
--- place, finds this, and leaves t
+-- an object: its states, its start state, and its steps. Steps s op found t: in state s the operation can take place, finds this, and leads
+-- to t
 pub record Object : Type 1 where
   pub State : Type 0
   pub start : State
   pub Steps : State → Op → Found → State → Type 0
 
--- a table: its states, the one it starts in, and the outcomes of an operation in a state, each the state after it and
--- what is found. If none is listed, the operation can't take place
+-- a table: its states, its start state, and the outcomes of an operation in a state. An outcome is the state after it and the found value.
+-- If there is no outcome, the operation cannot take place
 pub record Table : Type 1 where
   pub State : Type 0
   pub start : State
@@ -45,56 +45,56 @@ of_table S start apply = record {
 abbrev pub object_by : Table → Object
 object_by table = of_table table.State table.start table.apply
 
--- a read leaves the state as it was
+-- a read does not change the state
 abbrev pub ReadsLeave : Object → Type 0
 ReadsLeave o =
     (op : Op) (s t : o.State) (found : Found) → op.name ≡ Read → o.Steps s op found t → s ≡ t
 
--- no two of these outcomes leave the same state
+-- two of these outcomes never have the same state
 abbrev pub AreApart : {S : Type 0} → List (S × Found) → Type 0
 AreApart {S} outcomes = AllPairs (λ (x y : S × Found). x.0 ≢ y.0) outcomes
 
--- a register: write v leaves v, read finds the state
+-- a register: write v sets it to v, and read finds its state
 abbrev pub register_apply : Name → Part → Option ℤ → List (Option ℤ × Found)
 register_apply Write (Int v) s = (Some v, Done) ∷ []
 register_apply Read Nil s = (s, Reg s) ∷ []
 register_apply _ _ s = []
 
--- a register with compare and set: cas [a b] takes place where the state is a, and leaves b
+-- a register with compare and set: cas [a b] takes place if the state is a, and sets it to b
 abbrev pub cas_register_apply : Name → Part → Option ℤ → List (Option ℤ × Found)
 cas_register_apply Cas (Pair a b) (Some s) = if int_eq s a then (Some b, Done) ∷ [] else []
 cas_register_apply name part s = register_apply name part s
 
--- a mutex, held or not: acquire takes place if it is free, release if it is held
+-- a mutex, held or free: acquire takes place if it is free, and release if it is held
 abbrev pub mutex_apply : Name → Part → Bool → List (Bool × Found)
 mutex_apply Acquire Nil false = (true, Done) ∷ []
 mutex_apply Release Nil true = (false, Done) ∷ []
 mutex_apply _ _ s = []
 
--- a queue, its front first: enqueue v adds v at the back, dequeue takes the front off and finds it
+-- a queue, first item first: enqueue v adds v at the end, and dequeue removes the first item and finds it
 abbrev pub queue_apply : Name → Part → List ℤ → List (List ℤ × Found)
 queue_apply Enqueue (Int v) s = (s ++ v ∷ [], Done) ∷ []
 queue_apply Dequeue Nil (x ∷ s) = (s, Item x) ∷ []
 queue_apply _ _ s = []
 
--- a set, its members ascending: add v puts v in, read finds all members
+-- a set with ascending members: add v inserts v, and read finds all members
 abbrev pub set_apply : Name → Part → List ℤ → List (List ℤ × Found)
 set_apply Add (Int v) s = (put_in v s, Done) ∷ []
 set_apply Read Nil s = (s, Elements s) ∷ []
 set_apply _ _ s = []
 
--- for each of these values one outcome: one of it is taken out, and found
+-- one outcome for each of these values: the value is removed once, and found
 abbrev pub taken_from : List ℤ → List ℤ → List (List ℤ × Found)
 taken_from s values = map (λ v. (without_one v s, Item v)) values
 
--- a queue without an order, its values ascending: enqueue v puts one v in, dequeue takes one of any value out and finds it. So dequeue has one
--- outcome for each value, by ascending value
+-- an unordered queue with ascending values: enqueue v inserts v once, and dequeue removes any value once and finds it. So dequeue has one
+-- outcome for each different value, in ascending order
 abbrev pub unordered_apply : Name → Part → List ℤ → List (List ℤ × Found)
 unordered_apply Enqueue (Int v) s = (with_one v s, Done) ∷ []
 unordered_apply Dequeue Nil s = taken_from s (values_of s)
 unordered_apply _ _ s = []
 
--- the six tables. Registers are nil at first, a mutex is free, and queues and sets are empty
+-- the six tables. A register is nil at first, a mutex is free, and queues and sets are empty
 abbrev pub register_table : Table
 register_table = record {
   State = Option ℤ;
@@ -156,8 +156,8 @@ set_of_numbers = object_by set_table
 abbrev pub unordered_queue : Object
 unordered_queue = object_by unordered_table
 
--- the value that was found agrees with the answer. A register answers its state, or nil, which says nothing. A queue answers the item that
--- was taken out alone, and a set its members alone. An operation that finds nothing agrees with every answer
+-- the found value agrees with the answer. For a register, its state and nil agree. For a queue only the found item agrees, and for a set
+-- only its members. If an operation finds nothing, every answer agrees
 abbrev pub Fits : Found → Answer → Type 0
 Fits Done answer = Unit {0}
 Fits (Reg s) Nothing = Unit {0}

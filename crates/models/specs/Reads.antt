@@ -1,4 +1,4 @@
--- Invariant: in each table a read leaves the state as it was
+-- Invariant: in each table a read does not change the state
 use Rattle.std.specs.Prelude.{◌≡◌, ℤ, Option, List, [], ◌∷◌}
 use Rattle.std.proofs.Common.{ap, subst, ⊎_elim}
 use Rattle.models.specs.declared.operation.Name.TheVariants.{Read}
@@ -8,7 +8,7 @@ use Rattle.models.specs.declared.finding.Found.{Found}
 use Rattle.models.specs.declared.finding.Found.TheVariants.{Reg, Elements}
 use Rattle.models.specs.Objects.{IsOneOf, ReadsLeave, register_apply, cas_register_apply, mutex_apply, queue_apply, set_apply, unordered_apply, register, cas_register, mutex, fifo_queue, set_of_numbers, unordered_queue}
 
--- the only outcome leaves the state
+-- the only outcome has the same state
 pub stays : {S : Type 0} (s t : S) (f g : Found) → IsOneOf {X = S × Found} ((s, f) ∷ []) (t, g) → s ≡ t
 stays {S} s t f g h = ⊎_elim (λ e. ap (λ (x : S × Found). x.0) e) (λ none. absurd none) h
 

@@ -11,7 +11,7 @@ use Rattle.models.specs.declared.finding.Found.{Found}
 use Rattle.models.specs.declared.finding.Found.TheVariants.{Unit as Done, Item}
 use Rattle.models.specs.Objects.{Object}
 
--- the operations take place one after another from state s on, each finds this, and they leave t
+-- the operations take place one after another from state s on, find these values, and lead to t
 abbrev pub Runs : (o : Object) → o.State → List (Op × Found) → o.State → Type 0
 Runs o s [] t = s ≡ t
 Runs o s (step ∷ steps) t = (next : o.State) × o.Steps s step.0 step.1 next × Runs o next steps t
@@ -31,7 +31,7 @@ abbrev pub is_dequeue_of : ℤ → Name → Found → Bool
 is_dequeue_of v Dequeue (Item w) = int_eq w v
 is_dequeue_of v _ _ = false
 
--- how often the value is enqueued, and found by a dequeue; how often it is among these
+-- how often the value is enqueued, and how often a dequeue finds it; how often a list contains it
 abbrev pub times_enqueued : ℤ → List (Op × Found) → ℕ
 times_enqueued v steps = count_by (λ step. is_enqueue_of v step.0.name step.0.part) steps
 

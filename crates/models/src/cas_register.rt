@@ -10,8 +10,8 @@ use crate::outcomes::put_outcome;
 use crate::register::Register;
 use std::alloc::{AllocError, Global};
 
-/// A register, nil at first, that also has compare and set: a cas takes place where the state is its first value, and
-/// leaves its second.
+/// A register that also has compare and set. Its value is nil at first. A cas takes place if the value is the first integer of the cas, and
+/// replaces it by the second.
 pub struct CasRegister;
 
 impl SeqObject for CasRegister {

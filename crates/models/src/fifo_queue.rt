@@ -10,7 +10,7 @@ use crate::outcomes::put_outcome;
 use std::alloc::{AllocError, Global};
 use values::Items;
 
-/// A queue, empty at first: an enqueue adds its value at the back, a dequeue takes the front off and finds it.
+/// A queue, empty at first. An enqueue adds its value at the end, and a dequeue removes the first item and finds it.
 pub struct FifoQueue;
 
 impl SeqObject for FifoQueue {

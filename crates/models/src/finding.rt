@@ -1,4 +1,4 @@
-//! The values that operations find, and the answers of clients.
+//! The values that operations find, and the answers that clients get.
 ghost use Rattle.std.specs.Prelude.{◌≡◌, ◌↔◌, IsTrue, IfOk};
 ghost use Rattle.models.specs.Objects.{Fits, answer_of};
 
@@ -6,12 +6,12 @@ use crate::operation::Part;
 use std::alloc::AllocError;
 use values::Members;
 
-/// The value that an operation finds where it takes place (a sequential specification; Herlihy and Wing 1990, section 2).
+/// The value that an operation finds when it takes place (a sequential specification; Herlihy and Wing 1990, section 2).
 #[derive(Drop)]
 pub enum Found {
-    /// No answer, as for a write.
+    /// No value, such as for a write.
     Unit,
-    /// The state of a register, nil at first.
+    /// The value of a register, nil at first.
     Reg(Option<i64>),
     /// The first item of a queue.
     Item(i64),
@@ -20,8 +20,8 @@ pub enum Found {
 }
 
 impl Found {
-    /// An equal value, which shares the members of a set. Takes constant time, and no memory; `AllocError` if as many
-    /// share them as can be counted.
+    /// Returns an equal value, which shares the members of a set. Takes constant time, and does not allocate. `AllocError` if the number of
+    /// values that share the members cannot grow any more.
     pub fn copy(&self) -> Result<Found, AllocError>
         ensures { IfOk result (λ other. other ≡ self.now) }
     {
@@ -33,7 +33,7 @@ impl Found {
         }
     }
 
-    /// Whether both are the same.
+    /// Returns whether both values are the same.
     pub fn same(&self, other: &Found) -> bool
         ensures { IsTrue result ↔ (self.now ≡ other.now) }
     {
@@ -50,7 +50,7 @@ impl Found {
 /// The answer in the completion of an operation.
 #[derive(Drop)]
 pub enum Answer {
-    /// Nothing, which is nil.
+    /// Nil: no answer.
     Nothing,
     /// An integer.
     Number(i64),
@@ -61,7 +61,7 @@ pub enum Answer {
 }
 
 impl Answer {
-    /// The answer that the part of an ok gives. Moves the part and takes no memory.
+    /// Returns the answer that the part of an ok gives. Moves the part and does not allocate.
     pub fn of_part(part: Part) -> Answer
         ensures { result ≡ answer_of part }
     {
@@ -73,8 +73,8 @@ impl Answer {
         }
     }
 
-    /// An equal value, which shares the members of a set. Takes constant time, and no memory; `AllocError` if as many
-    /// share them as can be counted.
+    /// Returns an equal answer, which shares the members of a set. Takes constant time, and does not allocate. `AllocError` if the number
+    /// of answers that share the members cannot grow any more.
     pub fn copy(&self) -> Result<Answer, AllocError>
         ensures { IfOk result (λ other. other ≡ self.now) }
     {
@@ -87,8 +87,8 @@ impl Answer {
     }
 }
 
-/// Whether the value that was found agrees with the answer. A register answers its state or nil, a queue its front alone, and a set its
-/// members alone. An operation that finds nothing agrees with every answer (this project's own).
+/// Returns whether the found value agrees with the answer. For a register, its value and nil agree. For a queue only the found item agrees,
+/// and for a set only its members. If an operation finds no value, every answer agrees (this project's own definition).
 pub fn fits(found: &Found, answer: &Answer) -> bool
     ensures { IsTrue result ↔ Fits found.now answer.now }
 {

@@ -1,4 +1,4 @@
-//! Laws that show that the tables say what they should.
+//! Laws that test the tables of the objects.
 ghost use Rattle.std.specs.Prelude.{◌≡◌, ◌↔◌, ◌+◌, ℕ, ℤ, Bool, Some, Option, List, [], ◌++◌, map};
 ghost use Rattle.std.specs.List.{Contains};
 ghost use Rattle.std.specs.List.Sorted.{IsPermutation};
@@ -12,28 +12,27 @@ ghost use Rattle.models.specs.Objects.{IsOneOf, cas_register_apply, mutex_apply,
 ghost use Rattle.models.specs.Objects.{fifo_queue, unordered_queue};
 ghost use Rattle.models.specs.Runs.{Runs, enqueued, dequeued, times_enqueued, times_dequeued, times_in};
 
-/// A cas takes place just where the state is its first value, and leaves its second.
+/// A cas takes place if and only if the state is its first integer, and its second integer is then the state.
 pub fn cas_law()
     ensures { (a b : ℤ) (s t : Option ℤ) (found : Found) →
         IsOneOf (cas_register_apply Cas (Pair a b) s) (t, found)
         ↔ ((s ≡ Some a) × (t ≡ Some b) × (found ≡ Done)) }
 {}
 
-/// A mutex is not acquired again before its release.
+/// A mutex cannot be acquired again before it is released.
 pub fn mutex_law()
     ensures { (s t u : Bool) (f g : Found) →
         IsOneOf (mutex_apply Acquire Nil s) (t, f) → ¬ IsOneOf (mutex_apply Acquire Nil t) (u, g) }
 {}
 
-/// A queue gives back in order what was put in.
+/// Dequeues return the values of a queue in the order in which they were enqueued.
 pub fn queue_law()
     ensures { (key : ℕ) (values : List ℤ) →
         Runs fifo_queue [] (map (enqueued key) values ++ map (dequeued key) values) [] }
 {}
 
-/// A queue without an order gives each value back as often as it was enqueued. At every moment the enqueued values are the values that
-/// dequeues have found and the values that are still in. Dequeues may find the values in any order. A dequeue finds any value that is in,
-/// and removes it once.
+/// An unordered queue returns each value as often as it was enqueued. At every moment the enqueued values are the dequeued values and the
+/// values that are still contained. Dequeues may find the values in any order: a dequeue finds any contained value, and removes it once.
 pub fn unordered_queue_law()
     ensures each_once { (steps : List (Op × Found)) (t : List ℤ) (v : ℤ) →
         Runs unordered_queue [] steps t

@@ -1,8 +1,9 @@
 //! The sequential objects: operations, the values that they find, and answers.
 //!
-//! An object is a table ([`SeqObject`]): a state to start with, and for each operation in a state the outcomes, each a state after it and
-//! its answer. There is no outcome if it can't take place. [`fits`] says whether an answer agrees with the value that was found. The
-//! names of operations are in one list, and the functions that tell them apart are macros over this list.
+//! An object is a table ([`SeqObject`]). The table has a start state, and for each state and operation the possible outcomes. An outcome is
+//! the state after the operation, and the found value. There is no outcome if the operation cannot take place. [`fits`] tests whether an
+//! answer agrees with the found value. All names of operations are in one list, and the functions that distinguish them are macros over
+//! this list.
 //!
 //! A call allocates only if its result can be `AllocError`, or a refusal because memory ran out.
 #![tactic(auto)]

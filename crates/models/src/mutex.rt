@@ -9,8 +9,7 @@ use crate::operation::{Name, Op, Part};
 use crate::outcomes::put_outcome;
 use std::alloc::{AllocError, Global};
 
-/// A mutex, free at first: an acquire takes place if it is free, a release if it is held. Its state is whether it
-/// is held.
+/// A mutex, free at first. An acquire takes place if the mutex is free, and a release if it is held. The state says whether it is held.
 pub struct Mutex;
 
 impl SeqObject for Mutex {

@@ -4,7 +4,7 @@ ghost use Rattle.std.specs.Prelude.{◌≡◌, [], ◌∷◌, ◌++◌, OnOk, On
 use crate::finding::Found;
 use std::alloc::AllocError;
 
-/// Puts the outcome behind the others; `AllocError` if there is no memory for it, and then they are as before.
+/// Appends an outcome to `outcomes`; `AllocError` if an allocation fails, and then the list is as before.
 #[inline(always)]
 pub(crate) fn put_outcome<S: Drop>(
     outcomes: &mut Vec<(S, Found)>,
@@ -21,7 +21,8 @@ pub(crate) fn put_outcome<S: Drop>(
     put_with_room(outcomes, state, found)
 }
 
-// The same, if there may be too little room.
+// Appends an outcome to `outcomes`, and makes room for it if necessary; `AllocError` if an allocation fails, and then the list is as
+// before.
 #[inline(never)]
 fn put_with_room<S: Drop>(
     outcomes: &mut Vec<(S, Found)>,

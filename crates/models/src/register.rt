@@ -9,7 +9,7 @@ use crate::operation::{Name, Op, Part};
 use crate::outcomes::put_outcome;
 use std::alloc::{AllocError, Global};
 
-/// A register, nil at first: a write leaves its value, a read finds the state.
+/// A register, nil at first. A write sets its value, and a read finds it.
 pub struct Register;
 
 impl SeqObject for Register {

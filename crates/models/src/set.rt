@@ -9,7 +9,7 @@ use crate::operation::{Name, Op, Part};
 use std::alloc::{AllocError, Global};
 use values::Spans;
 
-/// A set of integers, empty at first: an add puts its value in, a read finds all members.
+/// A set of integers, empty at first. An add inserts its value, and a read finds all members.
 pub struct Set;
 
 impl SeqObject for Set {

@@ -1,4 +1,4 @@
-//! The queue without an order.
+//! The unordered queue.
 ghost use Rattle.std.specs.Prelude.{◌≡◌, ◌≢◌, ◌↔◌, ◌+◌, ◌<◌, ◌++◌, ℕ, ℤ, List, [], IsTrue, OnOk, OnErr, get_or, length, take};
 ghost use Rattle.models.specs.declared.finding.Found.{Found};
 ghost use Rattle.values.specs.Multisets.{values_of};
@@ -13,11 +13,11 @@ use crate::outcomes::put_outcome;
 use std::alloc::{AllocError, Global};
 use values::Multiset;
 
-/// A queue without an order, empty at first: an enqueue puts one of its value in, a dequeue takes out one of any value that
-/// is in and finds it. So a dequeue has an outcome for each of the values, and they are listed by ascending value.
+/// An unordered queue, empty at first. An enqueue inserts its value once. A dequeue removes any contained value once, and finds it. So a
+/// dequeue has one outcome for each different value, and the outcomes ascend by value.
 pub struct UnorderedQueue;
 
-// Whether there are more than `most` different values. Looks at no further ones then.
+// Returns whether the state has more than `most` different values. Looks at no more values than necessary.
 fn has_more_values(state: &Multiset, most: usize) -> bool
     ensures { IsTrue result ↔ (most < length (values_of state.now)) }
 {
@@ -34,7 +34,7 @@ fn has_more_values(state: &Multiset, most: usize) -> bool
     false
 }
 
-// Puts the outcome that takes the value at this place out behind the others. It is the first of its value.
+// Appends the outcome that removes the value at index `at`, which is the first one of its value.
 fn append_at(
     state: &Multiset,
     at: usize,
@@ -53,7 +53,7 @@ fn append_at(
     put_outcome(outcomes, rest, Found::Item(value))
 }
 
-// Puts an outcome for each value behind the others; if there is no memory, for some of them.
+// Appends one outcome for each different value. If an allocation fails, some of them may have been appended.
 fn append_each(state: &Multiset, outcomes: &mut Vec<(Multiset, Found)>) -> Result<(), AllocError>
     ensures appended { OnOk result
         (outcomes.new.items ≡ outcomes.old.items ++ taken_from state.now (values_of state.now)) }
@@ -69,7 +69,7 @@ fn append_each(state: &Multiset, outcomes: &mut Vec<(Multiset, Found)>) -> Resul
     Ok(())
 }
 
-// Puts an outcome for each value behind the others; if there is no memory, none.
+// Appends one outcome for each different value. If an allocation fails, none is appended.
 fn append_dequeues(
     state: &Multiset,
     outcomes: &mut Vec<(Multiset, Found)>,

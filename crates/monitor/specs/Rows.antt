@@ -1,4 +1,4 @@
--- Promise and invariant: the lines of the keys; public clauses cite their present histories and the effect of a cut
+-- Promise and invariant: the lines of the keys; clauses of public calls use their present histories and the effect of a cut
 use Rattle.std.specs.Prelude.{◌≡◌, ℕ, zero, suc, ◌≤◌, true, if◌then◌else◌, Option, Some, None, IfSome, Result, IfOk, OnOk, List, [], ◌∷◌, length, map, slice_get}
 use Rattle.std.specs.List.{filter, sum_by}
 use Rattle.events.specs.declared.event.Event.{Event}
@@ -9,12 +9,12 @@ use Rattle.linspec.specs.KeyHistory.{KeyHistory, IsStatusOf, cut_at, begins_belo
 use Rattle.checkpoints.specs.KeyLineView.{KeyLineView, at_rest, with_next, replays_at, count_on}
 use Rattle.checkpoints.specs.Borrowed.{AreBorrowedBy}
 
--- a row for each key: the key and its line; and the room for more
+-- a row for each key (the key and its line), and the room for more rows
 pub record LinesView : Type 0 where
   pub rows : List (ℕ × KeyLineView)
   pub room : ℕ
 
--- the present histories of the lines, whatever is prepared
+-- the present histories of the lines, without prepared changes
 abbrev pub nows : List (ℕ × KeyLineView) → List (ℕ × KeyHistory)
 nows rows = map (λ row. (row.0, row.1.now)) rows
 
@@ -22,13 +22,13 @@ nows rows = map (λ row. (row.0, row.1.now)) rows
 abbrev pub cut_rows : ℕ → List (ℕ × KeyHistory) → List (ℕ × KeyHistory)
 cut_rows n rows = map (λ row. (row.0, cut_at n row.1)) rows
 
--- how each of the keys stands
+-- the statuses of the keys, in the same order
 abbrev pub AreStatusesOf : List (ℕ × KeyHistory) → List (ℕ × KeyStatus) → Type 0
 AreStatusesOf [] [] = Unit {0}
 AreStatusesOf (row ∷ rows) (s ∷ statuses) = (s.0 ≡ row.0) × IsStatusOf row.1 s.1 × AreStatusesOf rows statuses
 AreStatusesOf _ _ = ⊥
 
--- the verdict joins how the keys stand
+-- the verdict joins the statuses of the keys
 abbrev pub JoinsRows : List (ℕ × KeyHistory) → Verdict → Type 0
 JoinsRows rows v = (statuses : List (ℕ × KeyStatus)) × AreStatusesOf rows statuses × IsJoin statuses v
 
@@ -36,14 +36,14 @@ JoinsRows rows v = (statuses : List (ℕ × KeyStatus)) × AreStatusesOf rows st
 abbrev pub AreRowsBorrowedBy : List Event → List (ℕ × KeyHistory) → Type 0
 AreRowsBorrowedBy borrowed rows = (place : ℕ) → IfSome (slice_get rows place) (λ row. AreBorrowedBy borrowed row.1.events)
 
--- how many events of all these keys a cut at n judges again; and those of the keys that lose events by it
+-- how many events of all these keys a cut at n judges again; the keys that lose events by this cut
 abbrev pub replays_in : ℕ → List (ℕ × KeyHistory) → ℕ
 replays_in n rows = sum_by (λ row. replays_at n row.1) rows
 
 abbrev pub losing : ℕ → List (ℕ × KeyHistory) → List (ℕ × KeyHistory)
 losing n rows = filter (λ row. loses_at n row.1) rows
 
--- how many events the key at the place has, if there is one
+-- how many events the key at the place has, or 0 if there is no place
 abbrev pub events_of_row : Option (ℕ × KeyHistory) → ℕ
 events_of_row None = 0
 events_of_row (Some row) = length row.1.events
@@ -52,17 +52,17 @@ abbrev pub events_at : Option ℕ → List (ℕ × KeyHistory) → ℕ
 events_at None rows = 0
 events_at (Some place) rows = events_of_row (slice_get rows place)
 
--- the line at the place is changed so
+-- the rows with the line at the place changed
 abbrev pub change_at : ℕ → (KeyLineView → KeyLineView) → List (ℕ × KeyLineView) → List (ℕ × KeyLineView)
 change_at place change [] = []
 change_at zero change (row ∷ rows) = (row.0, change row.1) ∷ rows
 change_at (suc place) change (row ∷ rows) = row ∷ change_at place change rows
 
--- each line is changed so
+-- the rows with each line changed
 abbrev pub each_line : (KeyLineView → KeyLineView) → List (ℕ × KeyLineView) → List (ℕ × KeyLineView)
 each_line change rows = map (λ row. (row.0, change row.1)) rows
 
--- the changes: prepare the cut at n if the key has an event before it; carry it out; prepare nothing
+-- the line after the cut at n is prepared, if the key has an event below n; after it is carried out; after it is dropped
 abbrev pub with_cut : ℕ → KeyLineView → KeyLineView
 with_cut n line =
     if begins_below n line.now then with_next (cut_at n line.now) (replays_at n line.now) line else line
@@ -73,17 +73,17 @@ cut_done n line = at_rest (cut_at n line.now) (count_on line.replayed line.prepa
 abbrev pub without_next : KeyLineView → KeyLineView
 without_next line = at_rest line.now line.replayed
 
--- the cut at n is prepared, if the key has an event before it, and its replays are counted
+-- if the key has an event below n, the cut at n is prepared, with its replays
 abbrev pub IsCutAt : ℕ → KeyLineView → Type 0
 IsCutAt n line = begins_below n line.now ≡ true
     → (line.next ≡ Some (cut_at n line.now)) × (line.prepared_replays ≡ replays_at n line.now)
 
--- so it is at each line
+-- this holds for each line
 abbrev pub AreCutAt : ℕ → List (ℕ × KeyLineView) → Type 0
 AreCutAt n rows = (place : ℕ) → IfSome (slice_get rows place) (λ row. IsCutAt n row.1)
 
--- the line at the place has a change of its key prepared, which takes this number of replays and brings this status, or memory was refused.
--- The present histories of the lines stay
+-- a change of the key at the place is prepared, with this number of replays and the status after it; or memory ran out. The present
+-- histories of the lines stay
 pub record PreparesAt {E : Type 0} (place : ℕ) (change : KeyHistory → KeyHistory) (due : KeyHistory → ℕ) (old new : LinesView) (result : Result KeyStatus E)
     : Type 0 where
   pub status : IfOk result (λ status. IfSome (slice_get old.rows place) (λ row. IsStatusOf (change row.1.now) status))

@@ -16,7 +16,7 @@ use Rattle.monitor.specs.declared.monitor.Change.{Change}
 use Rattle.monitor.specs.declared.monitor.Change.TheVariants.{Fault, Append, Begin, Rewind, Set}
 use Rattle.monitor.specs.declared.monitor.Monitor.TheInside.{Inside}
 
--- the meaning of the parts: the events of the history, by the settings
+-- the judged history of the parts: the events of the history, judged by the settings
 abbrev pub judged_of : HistoryView → JudgedHistory → JudgedHistory
 judged_of history opening =
     record opening { concurrency = history.concurrency; events = history.events }
@@ -24,7 +24,7 @@ judged_of history opening =
 abbrev pub judged_by_parts : Inside → JudgedHistory
 judged_by_parts a = judged_of a.history a.settings.opening
 
--- the history after a prepared change. The history has its part of it prepared
+-- the judged history after a prepared change; the events after it are prepared in the history
 abbrev pub with_events_of : Option (List Event) → JudgedHistory → JudgedHistory
 with_events_of None h = h
 with_events_of (Some events) h = record h { events = events }
@@ -40,12 +40,12 @@ abbrev pub monitor_view : Inside → MonitorView
 monitor_view a =
     record { now = judged_by_parts a; next = option_map (brought a) a.prepared; judged_again = a.judged_again }
 
--- the history has its part prepared, or there is room to set what is to be set
+-- the events after the change are prepared in the history, or there is room for the setting
 abbrev pub MayBeTaken : Inside → Change → Type 0
 MayBeTaken a (Set key setting place) = 0 < room_for setting a.settings
 MayBeTaken a _ = IsSome a.history.next
 
--- the rows that a change brings, which the lines have prepared
+-- the rows after a change, which is prepared in the lines
 abbrev pub BringsRows : LinesView → Change → List (ℕ × KeyHistory) → Type 0
 BringsRows lines Fault rows = rows ≡ nows lines.rows
 BringsRows lines (Append place) rows = AreRowsWith lines (Some place) rows
@@ -57,14 +57,14 @@ BringsRows lines (Rewind n kept) rows =
     × (rows ≡ cut_rows n (take kept (nows lines.rows)))
 BringsRows lines (Set key setting place) rows = AreRowsWith lines place rows
 
--- the length that the history will have: no less than now, except by a rewind
+-- the length of the history after a change: that of the rewind, else at least the present length
 abbrev pub HasLength : HistoryView → Change → Type 0
 HasLength history (Rewind n kept) =
     (n ≤ length history.events) × (history.next ≡ Some (take n history.events))
 HasLength history (Set key setting place) = Unit {0}
 HasLength history _ = IfSome history.next (λ events. length history.events ≤ length events)
 
--- the prepared change can be carried out, and this is then the verdict
+-- the prepared change can be carried out, and `verdict` is then the verdict
 pub record IsReady (a : Inside) (change : Change) (verdict : Verdict) : Type 0 where
   pub rows : List (ℕ × KeyHistory)
   pub taken : MayBeTaken a change

@@ -27,7 +27,7 @@ pub fn some_verdict_law()
     judged_prefixes_law();
 }
 
-/// A history that was judged has a verdict at each length.
+/// A judged history has a verdict at each length.
 pub(crate) fn judged_prefixes_law()
     ensures { (h : JudgedHistory) (rows : List (ℕ × KeyHistory)) (v : Verdict) (n : ℕ) →
         IsJudged h rows v → (w : Verdict) × IsVerdictOn (rewound n h) w }

@@ -1,4 +1,4 @@
-//! How the verdict on a history follows from the states of its keys.
+//! The verdict on a history, from the statuses of its keys.
 ghost use Rattle.std.specs.Prelude.{◌≡◌, ℕ, List, map};
 ghost use Rattle.std.specs.List.{All};
 ghost use Rattle.history.specs.WellFormed.{IsHistoryOf};
@@ -11,9 +11,9 @@ ghost use Rattle.linspec.specs.JudgedHistory.{JudgedHistory, IsVerdictOn, keys_i
 use crate::laws::judging_law;
 use linspec::laws::{one_answer_law, places_rise};
 
-/// The verdict on a history is the join of the statuses of its keys. It is illegal at the least index at which a key is dead, else unknown at
-/// the least index at which a key is over its budget, else legal. So the statuses of the keys with events, in the order of first events,
-/// determine the verdict from scratch.
+/// The verdict on a history is the join of the statuses of its keys. It is illegal at the least index at which a key is dead. If no key is
+/// dead, it is unknown at the least index at which a key is over its budget. Otherwise it is legal. So the statuses of the keys with
+/// events, in the order of their first events, determine the verdict.
 pub fn verdict_joins_law()
     ensures { (h : JudgedHistory) (statuses : List (ℕ × KeyStatus)) (v : Verdict) →
         IsHistoryOf h.concurrency h.events

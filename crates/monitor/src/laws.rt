@@ -1,4 +1,4 @@
-//! Laws that the changes of a monitor rest on.
+//! Laws on which the changes of a monitor depend.
 ghost use Rattle.std.specs.Prelude.{◌≡◌, ℕ, List, Some, ◌∷◌, ◌++◌, [], length};
 ghost use Rattle.events.specs.declared.event.Event.{Event};
 ghost use Rattle.events.specs.Events.{key_of};
@@ -28,7 +28,7 @@ pub(crate) fn judging_law()
     process_rule_law();
 }
 
-/// An event that may come next may be the next one of its key.
+/// If an event may come next in the history, it may come next for its key.
 pub(crate) fn next_event_law()
     ensures { (h : JudgedHistory) (event : Event) (key : ℕ) →
         IsHistoryOf h.concurrency h.events → Admits h event → key_of event ≡ Some key

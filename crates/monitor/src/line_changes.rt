@@ -1,4 +1,4 @@
-//! A change of the history and of the lines: prepared in each, and carried out.
+//! Changes of the history and of the lines: their preparation and their execution.
 ghost use Rattle.std.specs.Prelude.{◌≡◌, ℕ, Some, ◌<◌, List, ◌++◌, ◌∷◌, [], length, IfOk, OnOk, IfSome};
 ghost use Rattle.events.specs.declared.event.Event.{Event};
 ghost use Rattle.events.specs.ProcessRule.{IsHistory};
@@ -15,7 +15,7 @@ use kinds::ModelKind;
 use linspec::Verdict;
 use std::alloc::{AllocError, Global};
 
-/// The event that is prepared to come next in a history.
+/// Returns the event that is prepared to be appended to a history.
 pub(crate) fn next_event(history: &History) -> &Event
     requires { (event : Event) × (history.now.next ≡ Some (history.now.events ++ event ∷ [])) }
     ensures { (event : Event) → history.now.next ≡ Some (history.now.events ++ event ∷ [])
@@ -27,7 +27,7 @@ pub(crate) fn next_event(history: &History) -> &Event
     }
 }
 
-/// The line of a key that has its first event.
+/// Returns the line of a key after its first event.
 pub(crate) fn first_line(
     alloc: Global,
     kind: ModelKind,
@@ -44,8 +44,8 @@ pub(crate) fn first_line(
     Ok(Box::new(alloc, line)?)
 }
 
-/// Prepares to judge the key with the line at this place, if there is one, by this kind and budget. `borrowed` has all events. Returns the
-/// join of the statuses after the change; `verdict` is the join of the present statuses. Each event that is judged again is counted.
+/// Prepares to judge the line at `place`, if there is one, by this kind and budget. `borrowed` has all events. Returns the join of the
+/// statuses after the change; `verdict` is the join of the present statuses. Counts each event that is judged again in `judged_again`.
 pub(crate) fn prepare_rebuild(
     lines: &mut Lines,
     verdict: Verdict,
@@ -63,7 +63,7 @@ pub(crate) fn prepare_rebuild(
         (judged_again.new ≡ count_on judged_again.old (events_at place (nows lines.old.rows))) }
     ensures kept { nows lines.new.rows ≡ nows lines.old.rows }
 {
-    // So that the prover knows that the count fits its type.
+    // This line tells the prover that the count fits its type.
     let _so_far = *judged_again;
     let Some(place) = place else {
         return Ok(verdict);
@@ -73,7 +73,7 @@ pub(crate) fn prepare_rebuild(
     Ok(lines.joined_with(place, status))
 }
 
-/// Carries out what the line at this place has prepared, if there is one.
+/// Carries out the prepared change of the line at `place`, if there is one.
 pub(crate) fn commit_line(lines: &mut Lines, place: Option<usize>)
     requires { (rows : List (ℕ × KeyHistory)) × AreRowsWith lines.old place rows }
     ensures { (rows : List (ℕ × KeyHistory)) → AreRowsWith lines.old place rows

@@ -20,26 +20,30 @@ use models::Key;
 use std::alloc::{AllocError, Global};
 use std::marker::Model;
 
-/// The line of each key that has events, as a [`Monitor`](crate::Monitor) keeps them. A key is found in constant time.
+/// The line of each key that has events, as a [`Monitor`](crate::Monitor) stores them. A key is found in constant time.
 ///
-/// A rewind of a monitor is [`prepare_cut`](Self::prepare_cut) and [`commit_cut`](Self::commit_cut) of its lines. Their clauses
-/// say what becomes of each line and its count of replays.
+/// A rewind of a monitor calls [`prepare_cut`](Self::prepare_cut) and [`commit_cut`](Self::commit_cut) of its lines. Their clauses define
+/// the resulting lines, and their numbers of replays.
 #[derive(Drop)]
 pub struct Lines {
     map: IndexMap<Key, KeyLine>,
 }
 
 impl Model for Lines {
+    ghost use Rattle.std.specs.Coded.{codes};
+    ghost use Rattle.kinds.specs.contracts.model_kind.ModelKind as model_kind;
     ghost use Rattle.indexmap.specs.IndexMap.{spare};
     ghost use Rattle.monitor.specs.Rows.{LinesView};
 
     ghost Value = { LinesView };
 
+    ghost coded = { Prim.hlevel (codes, model_kind.the_row.coded) };
+
     ghost view = { λ a. record { rows = a.map.entries; room = spare a.map } };
 }
 
 impl Lines {
-    /// No lines.
+    /// Returns a value without lines.
     pub fn new(alloc: Global) -> Lines
         ensures { result.rows ≡ [] }
     {
@@ -48,21 +52,21 @@ impl Lines {
         }
     }
 
-    /// How many there are. Takes constant time.
+    /// Returns the number of lines. Takes constant time.
     pub fn len(&self) -> usize
         ensures { result ≡ length self.now.rows }
     {
         self.map.len()
     }
 
-    /// The place of a key's line, if the key has events. Takes constant time.
+    /// Returns the place of a key's line, if the key has events. Takes constant time.
     pub fn find(&self, key: Key) -> Option<usize>
         ensures { result ≡ position (nat_eq key) (keys_of self.now.rows) }
     {
         self.map.get_index_of(&key)
     }
 
-    /// The key and the line at a place. Takes constant time.
+    /// Returns the key and the line at index `place`. Takes constant time.
     pub fn key_and_line(&self, place: usize) -> (Key, &KeyLine)
         requires { place < length self.now.rows }
         ensures { slice_get self.now.rows place ≡ Some (result.0, result.1.now) }
@@ -73,8 +77,8 @@ impl Lines {
         }
     }
 
-    /// Prepares one more event of the key at a place, and gives the status that it brings. Costs what [`KeyLine::prepare_push`] costs.
-    /// `AllocError` if memory was refused: then the line has nothing prepared, and the rest is as it was.
+    /// Prepares a further event of the key at index `place`, and returns the status after it. Costs what [`KeyLine::prepare_push`] costs.
+    /// `AllocError` if an allocation fails; the line has nothing prepared then, and the rest is as it was.
     pub fn prepare_push(
         &mut self,
         place: usize,
@@ -91,8 +95,8 @@ impl Lines {
         }
     }
 
-    /// Prepares that the key at a place is judged by this kind and budget, and gives the status that this brings. `lent` has all events.
-    /// Costs what [`KeyLine::prepare_rebuild`] costs. `AllocError` if memory was refused: then the line has nothing prepared, and the rest
+    /// Prepares to judge the key at index `place` by this kind and budget, and returns the status after that. `borrowed` has all events.
+    /// Costs what [`KeyLine::prepare_rebuild`] costs. `AllocError` if an allocation fails; the line has nothing prepared then, and the rest
     /// is as it was.
     pub fn prepare_rebuild(
         &mut self,
@@ -113,8 +117,8 @@ impl Lines {
     }
 
     /// Prepares a cut at `n` of each line that has an event before `n`. `borrowed` has all events. Returns the number of these lines, and
-    /// the join of their statuses after the cut. Costs O(lines), and a cut of each line that loses events. Each event that is judged again
-    /// is counted. `AllocError` if there is no memory: then no line has a prepared change.
+    /// the join of their statuses after the cut. Costs O(lines), and a cut of each line that loses events. Counts each event that is judged
+    /// again in `judged_again`. `AllocError` if an allocation fails; no line has a prepared change then.
     pub fn prepare_cut(
         &mut self,
         n: u32,
@@ -135,7 +139,7 @@ impl Lines {
         ensures room { self.old.room ≤ self.new.room }
     {
         no_keys_law();
-        // So that the prover knows that the count fits its type.
+        // This line tells the prover that the count fits its type.
         let _so_far = *judged_again;
         let mut kept = 0;
         let mut verdict = Verdict::Legal;
@@ -157,7 +161,7 @@ impl Lines {
         Ok((kept, verdict))
     }
 
-    /// The join of the statuses of all keys, with `status` for the key at `place`. Costs O(lines), and no memory.
+    /// Returns the join of the statuses of all keys, with `status` for the key at index `place`. Does not allocate. Costs O(lines).
     pub fn joined_with(&self, place: usize, status: KeyStatus) -> Verdict
         ensures { (next : KeyHistory) → IsStatusOf next status
             → JoinsRows (set_value_at (nows self.now.rows) place next) result }
@@ -176,7 +180,7 @@ impl Lines {
         verdict
     }
 
-    /// Carries out what is prepared at a place. It takes no memory and cannot fail.
+    /// Carries out the prepared change of the line at index `place`. Does not allocate and cannot fail.
     pub fn commit(&mut self, place: usize)
         requires { IsSomeAnd (slice_get self.old.rows place) (λ row. IsSome row.1.next) }
         ensures { IfSome (slice_get self.old.rows place) (λ row. IfSome row.1.next (λ next.
@@ -189,8 +193,7 @@ impl Lines {
         }
     }
 
-    /// Carries out a prepared cut at `n`, after which this many lines are left, the first ones. Judges nothing, and takes no
-    /// memory.
+    /// Carries out a prepared cut at `n`, after which the first `kept` lines are left. Does not allocate and judges nothing.
     pub fn commit_cut(&mut self, n: u32, kept: usize)
         requires next { AreCutAt n self.old.rows }
         requires first { filter (λ row. begins_below n row.1) (nows self.old.rows)
@@ -204,8 +207,8 @@ impl Lines {
         }
     }
 
-    /// How many events of the line at a place were judged again for a prepared cut at `n`: none of a line that has no event before
-    /// `n`. Takes constant time.
+    /// Returns how many events of the line at index `place` were judged again for a prepared cut at `n`. It is 0 if the line has no event
+    /// before `n`. Takes constant time.
     pub fn replays_at(&self, place: usize, n: u32) -> u64
         requires within { place < length self.now.rows }
         requires next { AreCutAt n self.now.rows }
@@ -219,8 +222,8 @@ impl Lines {
         cut.prepared_replays()
     }
 
-    /// Makes room for one more line. `AllocError` if memory was refused: then the lines are as they were. Takes constant
-    /// time, unless their memory grows.
+    /// Makes room for one more line. `AllocError` if an allocation fails; the lines are then as they were. Takes constant time unless their
+    /// memory grows.
     pub fn reserve(&mut self) -> Result<(), AllocError>
         ensures same { self.new.rows ≡ self.old.rows }
         ensures room { OnOk result (0 < self.new.room) }
@@ -228,7 +231,7 @@ impl Lines {
         self.map.reserve(1)
     }
 
-    /// Adds the line of a new key as the last one.
+    /// Appends the line of a new key.
     pub fn add(&mut self, key: Key, line: KeyLine)
         requires room { 0 < self.old.room }
         requires new { position (nat_eq key) (keys_of self.old.rows) ≡ None }
@@ -240,7 +243,7 @@ impl Lines {
         }
     }
 
-    // Prepares a cut at `n` of the line at a place, and gives the status that this brings.
+    // Prepares a cut at `n` of the line at index `place`, and returns the status after it.
     fn prepare_line_cut(
         &mut self,
         place: usize,
@@ -257,7 +260,7 @@ impl Lines {
         }
     }
 
-    // Drops what each line has prepared.
+    // Drops the prepared change of each line.
     fn drop_prepared(&mut self)
         ensures rows { self.new.rows ≡ each_line without_next self.old.rows }
         ensures room { self.old.room ≤ self.new.room }
@@ -267,7 +270,7 @@ impl Lines {
         }
     }
 
-    // Drops what the line at a place has prepared.
+    // Drops the prepared change of the line at index `place`.
     fn drop_prepared_at(&mut self, place: usize)
         requires { place < length self.old.rows }
         ensures rows { self.new.rows ≡ change_at place without_next self.old.rows }

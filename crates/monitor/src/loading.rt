@@ -1,4 +1,4 @@
-//! The monitor of a history that is there already.
+//! The monitor of an existing history.
 ghost use Rattle.std.specs.Prelude.{◌≡◌, ◌≢◌, ◌<◌, ◌≤◌, map, OnOk, IfOk, IfErr};
 ghost use Rattle.linspec.specs.Orders.{Pairwise};
 ghost use Rattle.parallel_recheck.specs.Pieces.{line_of};
@@ -25,15 +25,16 @@ use std::alloc::{AllocError, Global};
 use std::thread::Threads;
 
 impl Monitor {
-    /// The monitor of a whole history: the one that [`new`](Self::new) opens, after appends of the history's events in turn.
+    /// Returns the monitor of a whole history. It is the monitor that [`new`](Self::new) opens, after appends of all events of the history
+    /// in order.
     ///
-    /// `workers` workers, 1 to 64, judge the keys, and the calling thread is one of them (see [`recheck`](parallel_recheck::recheck)). No
-    /// worker gets an event before all events are grouped by their keys. The gate is called as each key begins and as it ends, by its place
-    /// in the order of first events. No event is copied. It costs O(events), and a push of each to the line of its key.
+    /// `workers` workers, 1 to 64, judge the keys. The calling thread is one of them (see [`recheck`](parallel_recheck::recheck)). They
+    /// begin after all events are grouped by key. The gate is called when each key begins and when it ends, with the place of the key in
+    /// the order of first events. No event is copied. Costs O(events), and a push of each event to the line of its key.
     ///
     /// # Errors
-    /// [`Refusal::BadBudget`] if the budget is not 1 to 65,536, else [`Refusal::NoMemory`] if an allocation fails, in
-    /// whichever thread. The history is then dropped.
+    /// [`Refusal::BadBudget`] if the budget is not 1 to 65,536, otherwise [`Refusal::NoMemory`] if an allocation fails in any thread. The
+    /// history is dropped then.
     pub fn load<R: Threads + Sync, G: Gate + Sync>(
         rt: &R,
         alloc: Global,
@@ -55,7 +56,7 @@ impl Monitor {
     }
 }
 
-// The lines of the keys of a history, all of this kind and budget, and the verdict. Workers make them.
+// Returns the lines of the keys of a history, all of this kind and budget, and the verdict. Workers judge the lines.
 fn judged<R: Threads + Sync, G: Gate + Sync>(
     rt: &R,
     alloc: Global,
@@ -71,7 +72,7 @@ fn judged<R: Threads + Sync, G: Gate + Sync>(
         (nows judged.0.rows) judged.1) }
 {
     judging_law();
-    // The call says that the events are a history.
+    // The clauses of `len` say that the events are a history.
     let _many = history.len();
     let grouped = pieces_from(alloc, kind, budget, history.events())?;
     let pieces = grouped.as_slice();
@@ -79,7 +80,7 @@ fn judged<R: Threads + Sync, G: Gate + Sync>(
     joined(alloc, pieces, lines)
 }
 
-// The lines of these pieces by their keys, each once, and the join of their statuses.
+// Returns the lines of the pieces, each with its key, and the join of their statuses.
 fn joined(
     alloc: Global,
     pieces: &[KeyEvents],

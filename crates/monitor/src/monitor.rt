@@ -29,7 +29,7 @@ use models::Key;
 use std::alloc::{AllocError, Global};
 use std::marker::Model;
 
-/// The greatest budget.
+/// The maximum budget.
 pub const MOST_ENDS: u32 = 65_536;
 
 /// The status of a key that has events.
@@ -38,12 +38,12 @@ pub struct KeyRow {
     pub key: Key,
     pub kind: ModelKind,
     pub budget: u32,
-    /// How many events the key has.
+    /// The number of the key's events.
     pub events: usize,
     pub status: KeyStatus,
 }
 
-/// A change that may be committed, and the verdict that it brings.
+/// A prepared change, and the verdict after it.
 #[derive(Drop)]
 struct Prepared {
     change: Change,
@@ -53,26 +53,25 @@ struct Prepared {
 /// A change whose parts are prepared.
 #[derive(Drop)]
 enum Change {
-    /// The history has an event more, which speaks of no operation.
+    /// The history gets a further event, which has no operation.
     Fault,
-    /// The history and the line at this place have an event more.
+    /// The history and the line at this index get a further event.
     Append(usize),
-    /// The history has an event more, and the key its first one, in this line.
+    /// The history gets a further event, and the key gets its first one, in this line.
     Begin(Key, Box<KeyLine>),
-    /// The history and the lines are cut at this length, after which this number of lines are left.
+    /// The history and the lines are cut at this length. This number of lines is left then.
     Rewind(u32, usize),
-    /// This is set for a key, and the line at this place, if it has events, is judged by it.
+    /// The key gets this setting. The line at this index, if there is one, is judged by it.
     Set(Key, Setting, Option<usize>),
 }
 
-/// The live monitor of a history of many keys, each an object by itself. It has the verdict on the present history, by the present kinds
-/// and budgets of the keys. Linearizability is that of Herlihy and Wing (1990).
+/// The live monitor of a history of many keys, each of which is an object of its own. It has the verdict on the present history, by the
+/// present kinds and budgets of the keys. Linearizability is that of Herlihy and Wing (1990).
 ///
-/// A key has the default kind and budget until another is set for it. The settings of a key without events are kept too, and outlive a
+/// A key has the default kind and budget until another one is set for it. The settings of a key without events are kept too, and outlive a
 /// rewind.
 ///
-/// Each change is prepared and then committed. A prepare may fail, and changes only the prepared change. A change that was prepared before
-/// is dropped.
+/// Each change is first prepared and then committed. A preparation may fail, and replaces only the prepared change.
 pub struct Monitor {
     alloc: Global,
     history: History,
@@ -84,9 +83,13 @@ pub struct Monitor {
 }
 
 impl Model for Monitor {
+    ghost use Rattle.std.specs.Coded.{codes};
+    ghost use Rattle.kinds.specs.contracts.model_kind.ModelKind as model_kind;
     ghost use Rattle.monitor.specs.Monitors.{MonitorView};
 
     ghost Value = { MonitorView };
+
+    ghost coded = { Prim.hlevel (codes, model_kind.the_row.coded) };
 
     ghost use Rattle.monitor.specs.SoundMonitor.{monitor_view, IsSoundMonitor};
 
@@ -95,7 +98,7 @@ impl Model for Monitor {
     ghost invariant = { IsSoundMonitor };
 }
 
-// So that crates above give one back by one call.
+// With this implementation, a crate above drops a monitor by one call.
 impl Drop for Monitor {
     fn drop(self) {
         let Monitor {
@@ -111,12 +114,12 @@ impl Drop for Monitor {
 }
 
 impl Monitor {
-    /// The monitor of no events, of threads 0 to `concurrency` - 1. Every key is an object of this kind, until another kind is set for it.
-    /// An ok may find at most `budget` ends of its key just before it, until another budget is set for the key. It costs O(threads).
+    /// Returns the monitor of no events, for the threads 0 to `concurrency` - 1. Each key is an object of this kind until another kind is
+    /// set for it. Its budget is `budget` until another one is set: the maximum number of ends just before an ok. Costs O(threads).
     ///
     /// # Errors
-    /// [`Refusal::BadBudget`] if the budget is not 1 to 65,536, else [`Refusal::BadConcurrency`] if the concurrency is
-    /// not 1 to 64, else [`Refusal::NoMemory`] if an allocation fails.
+    /// [`Refusal::BadBudget`] if the budget is not 1 to 65,536, otherwise [`Refusal::BadConcurrency`] if the concurrency is not 1 to 64,
+    /// otherwise [`Refusal::NoMemory`] if an allocation fails.
     pub fn new(
         alloc: Global,
         concurrency: u32,
@@ -136,7 +139,7 @@ impl Monitor {
         Ok(Self::of_lines(alloc, history, kind, budget, lines, Verdict::Legal))
     }
 
-    // The monitor of a history whose keys have these lines, all of this kind and budget, and this verdict.
+    // Returns the monitor of a history with these lines of its keys, all of this kind and budget, and with this verdict.
     pub(crate) fn of_lines(
         alloc: Global,
         history: History,
@@ -160,11 +163,11 @@ impl Monitor {
         }
     }
 
-    /// Prepares to append an event, and returns the verdict after [`commit`](Self::commit). Costs [`KeyLine::prepare_push`] for the event's
-    /// own key, for any number of keys.
+    /// Prepares to append an event, and returns the verdict after [`commit`](Self::commit). Costs what [`KeyLine::prepare_push`] costs for
+    /// the event's key, for any number of keys.
     ///
     /// # Errors
-    /// The refusals of [`History::prepare_push`], in their order: [`Refusal::NoMemory`] last. Then nothing is prepared.
+    /// The refusals of [`History::prepare_push`] in their order, with [`Refusal::NoMemory`] last. After an error nothing is prepared.
     pub fn prepare_append(&mut self, event: Event) -> Result<Verdict, Refusal>
         ensures well_formed { OnOk result (Admits self.old.now event) }
         ensures prepared { OnOk result
@@ -183,13 +186,13 @@ impl Monitor {
         }
     }
 
-    /// Prepares to keep the first `n` events alone, and gives the verdict that [`commit`](Self::commit) will bring. Kinds and budgets stay.
-    /// It judges again fewer than 64 events of each key that loses events, and none of any other. It costs O(n + keys with events), and a
-    /// cut of the line of each key that loses events (see [`KeyLine::prepare_cut`]).
+    /// Prepares to keep only the first `n` events, and returns the verdict after [`commit`](Self::commit). Kinds and budgets do not change.
+    /// Judges fewer than 64 events of each key that loses events again, and none of any other key. Costs O(n + keys with events), and a cut
+    /// of the line of each key that loses events (see [`KeyLine::prepare_cut`]).
     ///
     /// # Errors
-    /// [`Refusal::NoSuchIndex`] if there are fewer events; else [`Refusal::NoMemory`] if an allocation fails. Then
-    /// nothing is prepared.
+    /// [`Refusal::NoSuchIndex`] if there are fewer events; otherwise [`Refusal::NoMemory`] if an allocation fails. After an error nothing
+    /// is prepared.
     pub fn prepare_rewind(&mut self, n: u32) -> Result<Verdict, Refusal>
         ensures within { OnOk result (n ≤ length self.old.now.events) }
         ensures prepared { OnOk result (self.new
@@ -214,11 +217,11 @@ impl Monitor {
         Ok(verdict)
     }
 
-    /// Prepares that a key is an object of this kind, and gives the verdict that [`commit`](Self::commit) will bring. It costs O(keys with
-    /// events), and a rebuild of the key's line (see [`KeyLine::prepare_rebuild`]); constant time if the key has no events.
+    /// Prepares to make a key an object of this kind, and returns the verdict after [`commit`](Self::commit). Costs O(keys with events),
+    /// and a rebuild of the key's line (see [`KeyLine::prepare_rebuild`]). Takes constant time if the key has no events.
     ///
     /// # Errors
-    /// `AllocError` if an allocation fails. Then nothing is prepared.
+    /// `AllocError` if an allocation fails. Nothing is prepared then.
     pub fn prepare_model(&mut self, key: Key, kind: ModelKind) -> Result<Verdict, AllocError>
         ensures prepared { OnOk result (self.new ≡ with_next (with_kind key kind self.old.now)
             (with_again (length (history_of_key self.old.now key).events) self.old)) }
@@ -228,12 +231,12 @@ impl Monitor {
         self.prepare_set(key, Setting::Kind(kind))
     }
 
-    /// Prepares that a key has this budget, and gives the verdict that [`commit`](Self::commit) will bring. It costs what
-    /// [`prepare_model`](Self::prepare_model) does.
+    /// Prepares to give a key the budget `n`, and returns the verdict after [`commit`](Self::commit). Costs what
+    /// [`prepare_model`](Self::prepare_model) costs.
     ///
     /// # Errors
-    /// [`Refusal::BadBudget`] if the budget is not 1 to 65,536; else [`Refusal::NoMemory`] if an allocation fails.
-    /// Then nothing is prepared.
+    /// [`Refusal::BadBudget`] if the budget is not 1 to 65,536; otherwise [`Refusal::NoMemory`] if an allocation fails. After an error
+    /// nothing is prepared.
     pub fn prepare_budget(&mut self, key: Key, n: u32) -> Result<Verdict, Refusal>
         ensures within { OnOk result (IsBudget n) }
         ensures prepared { OnOk result (self.new ≡ with_next (with_budget key n self.old.now)
@@ -248,7 +251,7 @@ impl Monitor {
         Ok(self.prepare_set(key, Setting::Budget(n))?)
     }
 
-    /// Carries out what is prepared. It takes no memory and cannot fail.
+    /// Carries out the prepared change. Does not allocate and cannot fail.
     pub fn commit(&mut self)
         requires { IsSome self.old.next }
         ensures { IfSome self.old.next (λ next. self.new ≡ at_rest next self.old.judged_again) }
@@ -279,7 +282,7 @@ impl Monitor {
         }
     }
 
-    /// Appends an event: [`prepare_append`](Self::prepare_append) and [`commit`](Self::commit) in one. Gives the verdict.
+    /// Appends an event, and returns the verdict. Does the same as [`prepare_append`](Self::prepare_append) and [`commit`](Self::commit).
     ///
     /// # Errors
     /// Those of [`prepare_append`](Self::prepare_append); the judged history is then as before, and nothing is prepared.
@@ -297,8 +300,8 @@ impl Monitor {
         Ok(verdict)
     }
 
-    /// Keeps the first `n` events alone: [`prepare_rewind`](Self::prepare_rewind) and [`commit`](Self::commit) in one. Gives
-    /// the verdict.
+    /// Keeps only the first `n` events, and returns the verdict. Does the same as [`prepare_rewind`](Self::prepare_rewind) and
+    /// [`commit`](Self::commit).
     ///
     /// # Errors
     /// Those of [`prepare_rewind`](Self::prepare_rewind); the judged history is then as before, and nothing is prepared.
@@ -318,8 +321,8 @@ impl Monitor {
         Ok(verdict)
     }
 
-    /// Makes a key an object of this kind: [`prepare_model`](Self::prepare_model) and [`commit`](Self::commit) in one. Gives
-    /// the verdict.
+    /// Makes a key an object of this kind, and returns the verdict. Does the same as [`prepare_model`](Self::prepare_model) and
+    /// [`commit`](Self::commit).
     ///
     /// # Errors
     /// `AllocError` if an allocation fails; the judged history is then as before, and nothing is prepared.
@@ -334,8 +337,8 @@ impl Monitor {
         Ok(verdict)
     }
 
-    /// Sets the budget of a key: [`prepare_budget`](Self::prepare_budget) and [`commit`](Self::commit) in one. Gives the
-    /// verdict.
+    /// Sets the budget of a key, and returns the verdict. Does the same as [`prepare_budget`](Self::prepare_budget) and
+    /// [`commit`](Self::commit).
     ///
     /// # Errors
     /// Those of [`prepare_budget`](Self::prepare_budget); the judged history is then as before, and nothing is prepared.
@@ -353,23 +356,23 @@ impl Monitor {
         Ok(verdict)
     }
 
-    /// The verdict on the present history. Takes constant time.
+    /// Returns the verdict on the present history. Takes constant time.
     pub fn verdict(&self) -> Verdict
         ensures { IsVerdictOn self.now.now result }
     {
         self.verdict
     }
 
-    /// The history has a verdict at each length: the one that a rewind to it would give. Does nothing.
+    /// States that the history has a verdict at each length: the one that a rewind to this length would give. Does nothing at run time.
     pub fn some_verdicts(&self)
         ensures { (n : ℕ) → (v : Verdict) × IsVerdictOn (rewound n self.now.now) v }
     {
         judged_prefixes_law();
-        // So that the prover takes the invariant, which speaks of the verdict.
+        // This line tells the prover the invariant, which says what the verdict is.
         let _verdict = self.verdict;
     }
 
-    /// The present history.
+    /// Returns the present history.
     pub fn history(&self) -> &History
         ensures events { result.now.events ≡ self.now.now.events }
         ensures concurrency { result.now.concurrency ≡ self.now.now.concurrency }
@@ -377,22 +380,22 @@ impl Monitor {
         &self.history
     }
 
-    /// The lines of the keys that have events, by first event. Each has the number of its replays so far, including each event that was
-    /// pushed ([`KeyLine::replayed`]).
+    /// Returns the lines of the keys that have events, in the order of first events. Each has the number of its replays so far, including
+    /// each pushed event ([`KeyLine::replayed`]).
     pub fn lines(&self) -> &Lines
         ensures { nows result.now.rows ≡ rows_of self.now.now }
     {
         &self.lines
     }
 
-    /// How many keys have events.
+    /// Returns the number of keys that have events.
     pub fn key_count(&self) -> usize
         ensures { result ≡ length (keys_in_order self.now.now.events) }
     {
         self.lines.len()
     }
 
-    /// The `i`-th key by first event: its kind, its budget, the number of its events, and its status.
+    /// Returns the kind, the budget, the number of events and the status of the key at place `i` in the order of first events.
     pub fn key_at(&self, i: usize) -> KeyRow
         requires { i < length (keys_in_order self.now.now.events) }
         ensures key { slice_get (keys_in_order self.now.now.events) i ≡ Some result.key }
@@ -411,9 +414,9 @@ impl Monitor {
         }
     }
 
-    /// How many events of the key were judged again for the rewind that is prepared: fewer than 64 if the key loses events, and none if
-    /// it does not. The judge of the key gets each of them, from the last state on that was saved before the cut. 0 if another change is
-    /// prepared, or none. [`commit`](Self::commit) judges nothing again.
+    /// Returns how many events of the key were judged again for the prepared rewind. It is fewer than 64 if the key loses events, and 0 if
+    /// it does not. These are the kept events after the last state that was saved before the cut. Returns 0 if another change is prepared,
+    /// or none. [`commit`](Self::commit) judges nothing again.
     pub fn replays(&self, key: Key) -> u64
         ensures counted { IfSome self.now.next (λ next.
             result ≡ replays_by self.now.now next key) }
@@ -433,9 +436,9 @@ impl Monitor {
         }
     }
 
-    /// How many events were judged again so far, by prepared changes, whether these were carried out or dropped. A rewind judges fewer than
-    /// 64 events of each key that loses events, and none of others. Another kind or budget judges all of the key. A change for which memory
-    /// was refused is not counted. It stops at the greatest `u64`.
+    /// Returns how many events were judged again so far, for prepared changes that were carried out or dropped. A rewind judges fewer than
+    /// 64 events of each key that loses events, and none of other keys. A change of the kind or the budget judges all events of the key. A
+    /// change for which an allocation failed does not count. The number stops at the greatest `u64`.
     pub fn judged_again(&self) -> u64
         ensures { result ≡ self.now.judged_again }
     {
@@ -443,7 +446,7 @@ impl Monitor {
         count
     }
 
-    // Prepares that an event comes next that speaks of no operation: no line sees it, and the verdict stays.
+    // Prepares to append an event without an operation. No line gets it, and the verdict does not change.
     fn prepare_fault(&mut self, event: Event) -> Result<Verdict, Refusal>
         requires { key_of event ≡ None }
         ensures { PreparesAppend self.old self.new event result }
@@ -456,7 +459,7 @@ impl Monitor {
         Ok(verdict)
     }
 
-    // Prepares that an event comes next, of a key that has the line at this place.
+    // Prepares to append an event of a key whose line is at index `place`.
     fn prepare_next(&mut self, key: Key, place: usize, event: Event) -> Result<Verdict, Refusal>
         requires key { key_of event ≡ Some key }
         requires place { position (nat_eq key) (keys_in_order self.old.now.events) ≡ Some place }
@@ -477,7 +480,7 @@ impl Monitor {
         Ok(verdict)
     }
 
-    // Prepares that an event comes next, the first one of its key.
+    // Prepares to append an event that is the first one of its key.
     fn prepare_first(&mut self, key: Key, event: Event) -> Result<Verdict, Refusal>
         requires key { key_of event ≡ Some key }
         requires new { position (nat_eq key) (keys_in_order self.old.now.events) ≡ None }
@@ -499,7 +502,7 @@ impl Monitor {
         Ok(verdict)
     }
 
-    // Prepares that this is set for a key.
+    // Prepares a setting for a key.
     fn prepare_set(&mut self, key: Key, setting: Setting) -> Result<Verdict, AllocError>
         ensures prepared { OnOk result (self.new ≡ with_next (with_setting key setting self.old.now)
             (with_again (length (history_of_key self.old.now key).events) self.old)) }

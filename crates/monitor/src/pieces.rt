@@ -16,13 +16,13 @@ use models::Key;
 use parallel_recheck::KeyEvents;
 use std::alloc::{AllocError, Global};
 
-/// The events of each key that has events, in the order of the keys' first events. They are borrowed from the history.
+/// The events of each key that has events, in the order of the keys' first events. The events are borrowed from the history.
 #[derive(Drop)]
 pub(crate) struct Pieces<'a> {
     map: IndexMap<Key, KeyEvents<'a>>,
 }
 
-/// The pieces of these events, each to be judged by this kind and budget. It costs O(events).
+/// Returns the pieces of these events, each to be judged by this kind and budget. Costs O(events).
 pub(crate) fn pieces_from<'a>(
     alloc: Global,
     kind: ModelKind,
@@ -43,7 +43,7 @@ pub(crate) fn pieces_from<'a>(
 }
 
 impl<'a> Pieces<'a> {
-    // Adds the event at an index to the piece of its key, if it has one.
+    // Adds the event at `index` to the piece of its key, if it has a key.
     fn add(
         &mut self,
         alloc: Global,
@@ -72,7 +72,7 @@ impl<'a> Pieces<'a> {
         }
     }
 
-    // Adds an event to the piece at a place.
+    // Adds an event to the piece at index `place`.
     fn extend(&mut self, place: usize, index: u32, event: &'a Event) -> Result<(), AllocError>
         requires { IsSomeAnd (slice_get self.old.map.entries place)
             (λ row. IsHistory (row.1.judged.events ++ (index, event.now) ∷ [])) }

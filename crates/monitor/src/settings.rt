@@ -12,13 +12,13 @@ use std::marker::Model;
 /// A setting of a key.
 #[derive(Clone, Copy)]
 pub(crate) enum Setting {
-    /// It is an object of this kind.
+    /// The key is an object of this kind.
     Kind(ModelKind),
-    /// An ok may find at most this number of ends of it.
+    /// The key has this budget: the maximum number of its ends just before an ok.
     Budget(u32),
 }
 
-/// The kind and the budget of each key: its own setting, else the default. A key is found in constant time.
+/// The kind and the budget of each key: its own setting, or the default. A key is found in constant time.
 #[derive(Drop)]
 pub(crate) struct Settings {
     kind: ModelKind,
@@ -28,11 +28,15 @@ pub(crate) struct Settings {
 }
 
 impl Model for Settings {
+    ghost use Rattle.std.specs.Coded.{codes};
+    ghost use Rattle.kinds.specs.contracts.model_kind.ModelKind as model_kind;
     ghost use Rattle.std.specs.Prelude.{[]};
     ghost use Rattle.indexmap.specs.IndexMap.{spare};
     ghost use Rattle.monitor.specs.Settings.{SettingsView};
 
     ghost Value = { SettingsView };
+
+    ghost coded = { Prim.hlevel (codes, model_kind.the_row.coded) };
 
     ghost view = { λ a. record {
       opening = record {
@@ -49,7 +53,7 @@ impl Model for Settings {
 }
 
 impl Settings {
-    /// The defaults for every key.
+    /// Returns settings in which every key has the defaults.
     pub(crate) fn new(alloc: Global, kind: ModelKind, budget: u32) -> Settings
         ensures { result.opening ≡ opening_of 1 kind budget }
     {
@@ -61,7 +65,7 @@ impl Settings {
         }
     }
 
-    /// The key's kind. Takes constant time.
+    /// Returns the key's kind. Takes constant time.
     pub(crate) fn kind_of(&self, key: Key) -> ModelKind
         ensures { result ≡ kind_of self.now.opening key }
     {
@@ -71,7 +75,7 @@ impl Settings {
         }
     }
 
-    /// The key's budget. Takes constant time.
+    /// Returns the key's budget. Takes constant time.
     pub(crate) fn budget_of(&self, key: Key) -> u32
         ensures { result ≡ budget_of self.now.opening key }
     {
@@ -81,8 +85,8 @@ impl Settings {
         }
     }
 
-    /// Makes room to set this for one more key, and gives the kind and the budget that the key then has. Nothing is set yet.
-    /// `AllocError` if memory was refused.
+    /// Makes room for a setting of one more key, and returns the kind and the budget of the key after the setting. Does not set it yet.
+    /// `AllocError` if an allocation fails.
     pub(crate) fn prepare(
         &mut self,
         key: Key,
@@ -107,7 +111,7 @@ impl Settings {
         }
     }
 
-    /// Sets this for a key.
+    /// Stores the setting of a key.
     pub(crate) fn put(&mut self, key: Key, setting: Setting)
         requires { 0 < room_for setting self.old }
         ensures { self.new.opening ≡ with_setting key setting self.old.opening }

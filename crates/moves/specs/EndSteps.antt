@@ -11,15 +11,15 @@ use Rattle.linspec.specs.Orders.{Pairwise}
 use Rattle.linspec.specs.Ends.{End}
 use Rattle.moves.specs.declared.pending_op.PendingOp.{PendingOp}
 
--- the end without what an open operation found: it is done now
+-- the end after the open operation has returned: its answer is no longer in the end
 abbrev pub settled : {S : Type 0} → End S → ℕ → End S
 settled e id = record { state = e.state; pending = finmap.remove e.pending id; crashed = e.crashed }
 
--- the open operation is in the end, and what it found there fits the answer
+-- the open operation is in the end, and its answer there fits
 abbrev pub FitsAt : {S : Type 0} → End S → ℕ → Answer → Type 0
 FitsAt e id answer = (found : Found) × (finmap.get e.pending id ≡ Some found) × Fits found answer
 
--- the end where the open operation has crashed, and is among the crashed ones if it is in it
+-- the end after the open operation has crashed: an operation of the end becomes one of its crashed ones
 abbrev pub crashed_if : {S : Type 0} → Option Found → End S → ℕ → End S
 crashed_if None e id = e
 crashed_if (Some found) e id = record {
@@ -28,16 +28,16 @@ crashed_if (Some found) e id = record {
   crashed = finset.insert e.crashed id;
 }
 
--- the end where the open operation has crashed: it is among the crashed ones if it counts, and else in it no longer
+-- the end after the open operation has crashed: `crashed_if` if crashed ones count, else the end without it
 abbrev pub after_crash : {S : Type 0} → Bool → End S → ℕ → End S
 after_crash true e id = crashed_if (finmap.get e.pending id) e id
 after_crash false e id = settled e id
 
--- the open operation is not in the end
+-- the end does not have the open operation
 abbrev pub IsOut : {S : Type 0} → End S → ℕ → Type 0
 IsOut e id = finmap.contains_key e.pending id ≡ false
 
--- f is what the end becomes if the operation returns with this answer, if it fails, and if it crashes
+-- f is the end after the operation returns with this answer, after it fails, or after it crashes
 abbrev pub Settles : {S : Type 0} → ℕ → Answer → End S → End S → Type 0
 Settles id answer e f = FitsAt e id answer × (settled e id ≡ f)
 
@@ -47,12 +47,12 @@ Fails id e f = IsOut e id × (e ≡ f)
 abbrev pub Crashes : {S : Type 0} → Bool → ℕ → End S → End S → Type 0
 Crashes counts id e f = after_crash counts e id ≡ f
 
--- the operation is in the end, among the crashed ones or the open ones
+-- the end has the operation, among its crashed ones or among its open ones
 abbrev pub is_in : {S : Type 0} → End S → ℕ → Bool → Bool
 is_in e id true = finset.contains e.crashed id
 is_in e id false = finmap.contains_key e.pending id
 
--- the end with the operation, after which the state is t
+-- the end after the operation, with the state t
 abbrev pub with_call : {S : Type 0} → End S → ℕ → Bool → Found → S → End S
 with_call e id true found t = record {
   state = t;
@@ -65,26 +65,26 @@ with_call e id false found t = record {
   crashed = e.crashed;
 }
 
--- f is e with the call, which takes place last
+-- f is e after the call, which takes place last
 pub record TakesLast (o : Object) (e : End o.State) (c : PendingOp) (f : End o.State) : Type 0 where
   pub not_in : is_in e c.id c.crashed ≡ false
   pub found : Found
   pub step : o.Steps e.state c.op found f.state
   pub made : f ≡ with_call e c.id c.crashed found f.state
 
--- f is e with one of the calls
+-- f is e after one of the calls
 abbrev pub Next : (o : Object) → List PendingOp → End o.State → End o.State → Type 0
 Next o calls e f = (c : PendingOp) × Contains calls c × TakesLast o e c f
 
--- the calls lead from these ends to no others
+-- the calls lead from these ends to no other end
 abbrev pub AreClosed : (o : Object) → List PendingOp → List (End o.State) → Type 0
 AreClosed o calls ends = (e f : End o.State) → Contains ends e → Next o calls e f → Contains ends f
 
--- some c of the list makes y
+-- y is made by some c of the list
 abbrev pub Along : {C Y : Type 0} → (C → Y → Type 0) → List C → Y → Type 0
 Along {C} R cs y = (c : C) × Contains cs c × R c y
 
--- f is reached from e by this many calls, one after another
+-- f is reached from e by n calls, one after another
 abbrev pub ReachesIn : (o : Object) → List PendingOp → ℕ → End o.State → End o.State → Type 0
 ReachesIn o calls zero e f = e ≡ f
 ReachesIn o calls (suc n) e f = (mid : End o.State) × ReachesIn o calls n e mid × Next o calls mid f
@@ -94,19 +94,18 @@ abbrev pub IsReached : (o : Object) → List PendingOp → List (End o.State) �
 IsReached o calls ends f =
     (n : ℕ) × (e : End o.State) × Contains ends e × ReachesIn o calls n e f
 
--- ys has what xs has and what P says, and nothing else; if nothing stands in xs twice, nothing
--- does in ys
+-- ys has the members of xs and those that satisfy P, and no others; if xs has no member twice, neither has ys
 pub record Adds {Y : Type 0} (P : Y → Type 0) (xs ys : List Y) : Type 0 where
   pub each : (y : Y) → Contains ys y ↔ (Contains xs y ⊎ P y)
   pub once : Pairwise (λ x y. x ≢ y) xs → Pairwise (λ x y. x ≢ y) ys
 
--- ys has the ends of xs, and besides them only ends that are reached from xs; if nothing stands in xs twice, nothing does in ys
+-- ys has the ends of xs, and otherwise only ends that are reached from xs; if xs has no end twice, neither has ys
 pub record Grows (o : Object) (calls : List PendingOp) (xs ys : List (End o.State)) : Type 0 where
   pub kept : (e : End o.State) → Contains xs e → Contains ys e
   pub reached : (e : End o.State) → Contains ys e → IsReached o calls xs e
   pub once : Pairwise (λ d e. d ≢ e) xs → Pairwise (λ d e. d ≢ e) ys
 
--- different ends, each reached from these, are more than the budget
+-- more different ends than the budget are reached from these ends
 pub record ReachesMoreThan (o : Object) (calls : List PendingOp) (ends : List (End o.State))
     (budget : ℕ) : Type 0 where
   pub more : List (End o.State)
@@ -114,20 +113,20 @@ pub record ReachesMoreThan (o : Object) (calls : List PendingOp) (ends : List (E
   pub once : Pairwise (λ d e. d ≢ e) more
   pub many : budget < length more
 
--- the calls of other operations
+-- the call is of another operation
 abbrev pub is_other : ℕ → PendingOp → Bool
 is_other id call = not (nat_eq call.id id)
 
--- the call, which has crashed if it is of this operation
+-- the call, marked as crashed if it is of this operation
 abbrev pub crash_call : ℕ → PendingOp → PendingOp
 crash_call id call =
     if nat_eq call.id id then record { id = call.id; op = call.op; crashed = true } else call
 
--- the calls after the operation has crashed: it is a crashed one if it counts, and else is no longer there
+-- the calls after the operation has crashed: it is a crashed one if crashed ones count, else it is removed
 abbrev pub calls_after_crash : Bool → ℕ → List PendingOp → List PendingOp
 calls_after_crash true id calls = map (crash_call id) calls
 calls_after_crash false id calls = filter (is_other id) calls
 
--- a read with this id is among the calls
+-- one of the calls is a read with this id
 abbrev pub HasRead : List PendingOp → ℕ → Type 0
 HasRead calls id = (c : PendingOp) × Contains calls c × (c.id ≡ id) × (c.op.name ≡ Read)

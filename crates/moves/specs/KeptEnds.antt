@@ -1,4 +1,4 @@
--- Invariant: ends by themselves, which rows become when they are made again, and the operations that may still take place
+-- Invariant: ends as they are kept without rows, and the operations that may still take place
 use Rattle.std.specs.Prelude.{◌≡◌, ◌≢◌, ◌↔◌, ℕ, Option, Some, List, Bool, true, false, IsTrue}
 use Rattle.std.specs.List.{Contains}
 use Rattle.std.specs.Ordering.{nat_cmp}
@@ -14,7 +14,7 @@ use Rattle.linspec.specs.Ends.{End, CountsIn, is_no_read}
 use Rattle.moves.specs.declared.pending_op.PendingOp.{PendingOp}
 use Rattle.moves.specs.declared.kept_end.KeptEnd.{KeptEnd}
 
--- the answer of each open operation, by the entries
+-- the answer of each open operation, by these entries
 abbrev pub pending_in : List (ℕ × Found) → finmap.FinMap nat_cmp Found
 pending_in entries = finmap.from_entries entries
 
@@ -28,7 +28,7 @@ crashed_in ids = finset.from_list ids
 abbrev pub has_crashed : List ℕ → ℕ → Bool
 has_crashed ids id = finset.contains (crashed_in ids) id
 
--- the end that is kept so
+-- the end that is kept in this form
 abbrev pub end_kept : {S : Type 0} → KeptEnd S → End S
 end_kept kept = record {
   state = kept.state;
@@ -44,13 +44,13 @@ pub record IsPending (marks : List Mark) (id : ℕ) (op : Op) : Type 0 where
   pub not_failed : ¬ Contains marks (Failed id)
   pub counted : Contains marks (Crashed id) → CountsIn is_no_read marks id
 
--- the list has each operation that may still take place, and whether it has crashed
+-- `calls` has exactly the operations that may still take place, and for each whether it has crashed
 abbrev pub ArePending : List PendingOp → List Mark → Type 0
 ArePending calls marks =
     (c : PendingOp) → Contains calls c
     ↔ (IsPending marks c.id c.op × (IsTrue c.crashed ↔ Contains marks (Crashed c.id)))
 
--- each operation that the end includes is among the calls
+-- `calls` has each operation that the end includes
 pub record IsIncluded {S : Type 0} (calls : List PendingOp) (e : End S) : Type 0 where
   pub pending : (id : ℕ) (found : Found) → finmap.get e.pending id ≡ Some found →
       (c : PendingOp) × Contains calls c × (c.id ≡ id) × (c.crashed ≡ false)
@@ -60,8 +60,8 @@ pub record IsIncluded {S : Type 0} (calls : List PendingOp) (e : End S) : Type 0
 abbrev pub AreIncluded : {S : Type 0} → List PendingOp → List (End S) → Type 0
 AreIncluded {S} calls ends = (e : End S) → Contains ends e → IsIncluded calls e
 
--- each end is kept once, and the operations that may still take place are those of the history, each once. Each operation that an end
--- includes is one of them
+-- each end is kept once. `calls` has the operations of the history that may still take place, each once, and so each operation that an end
+-- includes
 pub record IsWellKept {S : Type 0} (calls : List PendingOp) (kept : List (End S))
     (marks : List Mark) : Type 0 where
   pub once : Pairwise (λ d e. d ≢ e) kept

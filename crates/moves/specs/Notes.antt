@@ -1,4 +1,4 @@
--- Invariant: moves that are noted by places, each with a stamp
+-- Invariant: moves that are noted at places, each with a stamp
 use Rattle.std.specs.Prelude.{◌≡◌, ◌<◌, ℕ, List, get_or, nat_eq, if◌then◌else◌}
 use Rattle.moves.specs.declared.moves.Move.{Move}
 use Rattle.moves.specs.declared.moves.Move.TheVariants.{Untried}
@@ -8,11 +8,11 @@ use Rattle.moves.specs.declared.notes.Noted.{Noted}
 abbrev pub nothing : Noted
 nothing = record { stamp = 0; to = Untried }
 
--- the move in the note, if its stamp is the present one; no move by another stamp
+-- the move in the note if the stamp is the present one, else Untried
 abbrev pub known_by : ℕ → Noted → Move
 known_by stamp noted = if nat_eq noted.stamp stamp then noted.to else Untried
 
--- all was noted with stamps before this one
+-- each note has a stamp before this one
 abbrev pub AreBefore : List Noted → ℕ → Type 0
 AreBefore list stamp = (place : ℕ) → (get_or list place nothing).stamp < stamp
 

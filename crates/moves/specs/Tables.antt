@@ -15,12 +15,12 @@ use Rattle.moves.specs.declared.table.Table.{Table}
 use Rattle.moves.specs.KeptEnds.{IsIncluded}
 use Rattle.moves.specs.EndSteps.{TakesLast, Adds}
 
--- the answer of the call in the end, if it is in it; a crashed one has none
+-- the answer of a call in the end, if the end has it: of an open call its answer, of a crashed one Nothing
 abbrev pub nothing_if : Bool → Option Found
 nothing_if true = Some Nothing
 nothing_if false = None
 
--- the record of the call's answer
+-- the recorded answer of a call: Nothing for a crashed one
 abbrev pub told_by : Bool → Found → Found
 told_by true found = Nothing
 told_by false found = found
@@ -32,18 +32,18 @@ found_in_end e id false = finmap.get e.pending id
 abbrev pub found_by : {S : Type 0} → End S → PendingOp → Option Found
 found_by e c = found_in_end e c.id c.crashed
 
--- each call is of another operation
+-- different calls are of different operations
 abbrev pub HasEachOnce : List PendingOp → Type 0
 HasEachOnce calls = Pairwise (λ c d. c.id ≢ d.id) calls
 
--- the call at this place is of this operation, which is open
+-- the call at this place is an open one, of this operation
 pub record IsOpenAt (calls : List PendingOp) (at id : ℕ) : Type 0 where
   pub call : PendingOp
   pub there : slice_get calls at ≡ Some call
   pub same : call.id ≡ id
   pub not_crashed : call.crashed ≡ false
 
--- the row says the end
+-- the row stands for the end
 pub record Says {S : Type 0} (states : List S) (founds : List Found) (calls : List PendingOp)
     (row : List ℕ) (e : End S) : Type 0 where
   pub long : length row ≡ length calls + 1
@@ -58,7 +58,7 @@ Shows t calls row e = Says t.states t.founds calls row e
 abbrev pub rows_of : {S : Type 0} → Table S → List (List ℕ)
 rows_of t = t.rows
 
--- the rows say these ends, in order, and no number stands for two things
+-- the rows stand for these ends, in order, and different numbers stand for different states and different answers
 pub record AreShown {S : Type 0} (t : Table S) (calls : List PendingOp) (ends : List (End S))
     : Type 0 where
   pub states_once : IsOnceIn t.states
@@ -67,35 +67,35 @@ pub record AreShown {S : Type 0} (t : Table S) (calls : List PendingOp) (ends : 
   pub each : (i : ℕ) (row : List ℕ) (e : End S) → slice_get (rows_of t) i ≡ Some row →
       slice_get ends i ≡ Some e → Shows t calls row e
 
--- more stands there than before, and what stood there stays
+-- the table has its old states and answers first, and perhaps more, still each once if each was there once
 pub record Widens {S : Type 0} (old new : Table S) : Type 0 where
   pub states : IsPrefixOf old.states new.states
   pub founds : IsPrefixOf old.founds new.founds
   pub states_once : IsOnceIn old.states → IsOnceIn new.states
   pub founds_once : IsOnceIn old.founds → IsOnceIn new.founds
 
--- the table may have more states and found things, and its rows are the same
+-- the table may have more states and answers, and its rows stay
 pub record KeepsRows {S : Type 0} (old new : Table S) : Type 0 where
   pub widens : Widens old new
   pub rows : rows_of new ≡ rows_of old
 
--- calls are tried and no more: the table has what it had and its rows are the same, and the count of the steps does not fall
+-- calls are tried: the table may have more states and answers, its rows stay, and the count of steps does not fall
 pub record OnlyTries {S : Type 0} (old new : Table S) (before after : ℕ) : Type 0 where
   pub widens : Widens old new
   pub rows : rows_of new ≡ rows_of old
   pub never_falls : before ≤ after
 
--- rows are added and no more: the table has what it had and its rows stand before the new ones, and so with the count
+-- rows are added after the old rows; the table may have more states and answers, and the count of steps does not fall
 pub record OnlyAdds {S : Type 0} (old new : Table S) (before after : ℕ) : Type 0 where
   pub widens : Widens old new
   pub front : IsPrefixOf (rows_of old) (rows_of new)
   pub never_falls : before ≤ after
 
--- the row with these numbers of a state and at this place
+-- the row with another state number, and another number at this place
 abbrev pub row_led : List ℕ → ℕ → ℕ × ℕ → List ℕ
 row_led row place to = set (set row 0 to.0) place to.1
 
--- the rows with these numbers say what the call leads to from the end
+-- the rows with these targets stand for exactly the ends that the call leads to from e
 pub record AreLed (o : Object) (t : Table o.State) (calls : List PendingOp) (row : List ℕ) (at : ℕ)
     (e : End o.State) (c : PendingOp) (targets : List (ℕ × ℕ)) : Type 0 where
   pub each : (to : ℕ × ℕ) → Contains targets to →
@@ -103,11 +103,11 @@ pub record AreLed (o : Object) (t : Table o.State) (calls : List PendingOp) (row
   pub all : (f : End o.State) → TakesLast o e c f →
       (to : ℕ × ℕ) × Contains targets to × Shows t calls (row_led row (at + 1) to) f
 
--- an end alone
+-- this end
 abbrev pub IsThat : {S : Type 0} → End S → End S → Type 0
 IsThat e f = e ≡ f
 
--- the rows say these ends and after them what P says, and nothing else
+-- the rows stand for these ends, and after them for the ends that satisfy P
 pub record ShownWith {S : Type 0} (t : Table S) (calls : List PendingOp) (ends : List (End S))
     (P : End S → Type 0) : Type 0 where
   pub more : List (End S)
@@ -115,7 +115,7 @@ pub record ShownWith {S : Type 0} (t : Table S) (calls : List PendingOp) (ends :
   pub front : IsPrefixOf ends more
   pub adds : Adds P ends more
 
--- the end k is e with the calls before this place alone
+-- the end k is e, but has only the calls before place n
 pub record IsToldBefore {S : Type 0} (calls : List PendingOp) (e k : End S) (n : ℕ) : Type 0 where
   pub state : k.state ≡ e.state
   pub included : IsIncluded calls k
@@ -127,24 +127,24 @@ pub record IsToldBefore {S : Type 0} (calls : List PendingOp) (e k : End S) (n :
 abbrev pub with_rows : {S : Type 0} → Table S → List (List ℕ) → Table S
 with_rows t rows = record { alloc = t.alloc; states = t.states; founds = t.founds; rows = rows }
 
--- both have the same states, found things and rows
+-- both tables have the same states, answers and rows
 pub record IsSameTable {S : Type 0} (t u : Table S) : Type 0 where
   pub states : u.states ≡ t.states
   pub founds : u.founds ≡ t.founds
   pub rows : rows_of u ≡ rows_of t
 
--- both show the same ends, by whatever calls
+-- both tables stand for the same ends, for any calls
 abbrev pub ShowTheSame : {S : Type 0} → Table S → Table S → Type 0
 ShowTheSame {S} t u =
     (calls : List PendingOp) (ends : List (End S)) → AreShown t calls ends ↔ AreShown u calls ends
 
--- the rows have the same numbers except for the first, which means the same state
+-- both rows have the same numbers except for the first, and both first numbers stand for the same state
 abbrev pub SaysTheSame : {S : Type 0} → List S → List S → List ℕ → List ℕ → Type 0
 SaysTheSame {S} states others row new =
     (to : ℕ) × (s : S) × (slice_get states (get_or row 0 0) ≡ Some s)
     × (slice_get others to ≡ Some s) × (0 < length row) × (new ≡ set row 0 to)
 
--- the other table has the first rows so, and no more
+-- the table u has just the first n rows of t, in this sense
 pub record SayTheSame {S : Type 0} (t u : Table S) (n : ℕ) : Type 0 where
   pub founds : u.founds ≡ t.founds
   pub once : IsOnceIn u.states

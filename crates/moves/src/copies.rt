@@ -5,12 +5,14 @@ ghost use Rattle.moves.specs.Tables.{IsSameTable, SayTheSame, ShowTheSame, rows_
 use crate::pending_op::PendingOp;
 use crate::table::Table;
 use interner::{States, founds, states};
-use models::SeqObject;
+use objects::Specification;
 use rows::RowSet;
 use std::alloc::AllocError;
 
-/// The same table, with memory of its own. Costs O(rows + states + answers).
-pub fn copied_whole<M: SeqObject>(table: &Table<M::State>) -> Result<Table<M::State>, AllocError>
+/// Returns the same table, with memory of its own. Costs O(rows + states + answers).
+pub fn copied_whole<M: Specification>(
+    table: &Table<M::State>,
+) -> Result<Table<M::State>, AllocError>
     ensures { IfOk result (IsSameTable table.now) }
 {
     let states = states::copied::<M>(table.alloc, &table.states)?;
@@ -24,9 +26,9 @@ pub fn copied_whole<M: SeqObject>(table: &Table<M::State>) -> Result<Table<M::St
     })
 }
 
-// Appends the row at this place to the other table, with the number that its state has there. Returns false if the row has no state, or is
-// there already.
-fn put_again<M: SeqObject>(
+// Appends the row at index `from` to `other`, with the number of its state there. Returns false if the row has no state, or if `other`
+// contains it already.
+fn put_again<M: Specification>(
     table: &Table<M::State>,
     from: usize,
     other: &mut Table<M::State>,
@@ -49,9 +51,9 @@ fn put_again<M: SeqObject>(
     Ok(other.rows.len() > from)
 }
 
-// The table with the states of its rows alone, if it has more states than rows. None if it has no more, and if two
-// rows are one, or one has no state: such rows say no ends.
-fn narrowed<M: SeqObject>(
+// Returns the table with only the states of its rows, if it has more states than rows. `None` if it does not have more. Also `None` if two
+// rows become the same or a row has no state, which never happens for the rows of ends.
+fn narrowed<M: Specification>(
     table: &Table<M::State>,
     calls: &[PendingOp],
 ) -> Result<Option<Table<M::State>>, AllocError>
@@ -76,9 +78,9 @@ fn narrowed<M: SeqObject>(
     Ok(Some(other))
 }
 
-/// A table that shows the same ends, with no more states than it has rows. It has copies of the rows and states, and shares the items of
-/// queues and the found members. Costs O(rows + states + answers).
-pub fn copied<M: SeqObject>(
+/// Returns a table that shows the same ends, with at most as many states as rows. It has copies of the rows and states, and shares the
+/// items of queues and the members of found sets. Costs O(rows + states + answers).
+pub fn copied<M: Specification>(
     table: &Table<M::State>,
     calls: &[PendingOp],
 ) -> Result<Table<M::State>, AllocError>

@@ -1,13 +1,15 @@
-//! Ends by themselves, which rows become when they are made again.
+//! Ends as values of their own, which can be changed and made into rows again.
 ghost use Rattle.std.specs.Prelude.{◌≡◌, false, IfOk, OnOk, option_copied};
 ghost use Rattle.moves.specs.KeptEnds.{end_kept, found_at, has_crashed};
 ghost use Rattle.moves.specs.EndSteps.{settled, after_crash, is_in, with_call};
 
 use crate::pending_op::PendingOp;
-use models::{Found, SeqObject};
+use models::Found;
+use objects::Specification;
 use std::alloc::{AllocError, Global};
 
-/// The result of a legal order: the state, the answer of each open operation in it, and the crashed operations in it.
+/// The result of a legal order: the state, the found value of each open operation that it contains, and the crashed operations that it
+/// contains.
 #[derive(Drop)]
 pub struct KeptEnd<S> {
     pub state: S,
@@ -15,7 +17,7 @@ pub struct KeptEnd<S> {
     pub crashed: Vec<u32>,
 }
 
-/// The answer of the operation, if it is among these. Costs O(their number).
+/// Returns the found value of operation `id`, if `pending` contains the operation. Costs O(`pending`).
 pub fn found_in(pending: &[(u32, Found)], id: u32) -> Option<&Found>
     ensures { option_copied result ≡ found_at pending.now id }
 {
@@ -27,14 +29,14 @@ pub fn found_in(pending: &[(u32, Found)], id: u32) -> Option<&Found>
     None
 }
 
-/// Whether the operation is among these. Costs O(their number).
+/// Returns whether `ids` contains operation `id`. Costs O(`ids`).
 pub fn has(ids: &[u32], id: u32) -> bool
     ensures { result ≡ has_crashed ids.now id }
 {
     ids.contains(&id)
 }
 
-// The same entries.
+// Returns a copy of the entries.
 fn copied(alloc: Global, pending: &[(u32, Found)]) -> Result<Vec<(u32, Found)>, AllocError>
     ensures { IfOk result (λ entries. entries.items ≡ pending.now) }
 {
@@ -46,8 +48,8 @@ fn copied(alloc: Global, pending: &[(u32, Found)]) -> Result<Vec<(u32, Found)>, 
     Ok(entries)
 }
 
-/// The same end. The items of queues and the members that were found are shared. Costs a copy of its state, and O(the operations in it).
-pub fn copy_of<M: SeqObject>(
+/// Returns an equal end. The items of queues and the members of found sets are shared. Costs a copy of its state, and O(operations in it).
+pub fn copy_of<M: Specification>(
     alloc: Global,
     kept: &KeptEnd<M::State>,
 ) -> Result<KeptEnd<M::State>, AllocError>
@@ -64,15 +66,15 @@ pub fn copy_of<M: SeqObject>(
 }
 
 impl<S> KeptEnd<S> {
-    // Whether the open operation is in it.
+    // Returns whether the end contains the open operation `id`.
     fn includes(&self, id: u32) -> bool
         ensures { result ≡ is_in (end_kept self.now) id false }
     {
         found_in(&self.pending, id).is_some()
     }
 
-    /// The call, which is not in it, takes place in it, and finds this. `AllocError` if there is no memory for it: then the
-    /// end is as it was. Takes constant time, but if its memory grows.
+    /// Adds the call, which the end does not contain yet, with its found value. `AllocError` if an allocation fails; the end is then as it
+    /// was. Takes constant time unless its memory grows.
     pub fn include(&mut self, call: &PendingOp, found: Found) -> Result<(), AllocError>
         ensures { let id = call.now.id in let crashed = call.now.crashed in
             let old = end_kept self.old in is_in old id crashed ≡ false
@@ -86,15 +88,16 @@ impl<S> KeptEnd<S> {
         Ok(())
     }
 
-    // The open operation leaves the end, and its answer is not recorded any more: it has returned, or it is a read that has crashed.
+    // Removes the open operation `id` and its found value. The operation has returned, or it has crashed and does not count or is a crashed
+    // operation now.
     fn settle(&mut self, id: u32)
         ensures { end_kept self.new ≡ settled (end_kept self.old) id }
     {
         self.pending.retain(|entry| entry.0 != id);
     }
 
-    /// The open operation crashes. If it counts and is in the end, it is among the crashed ones then, and if it does not count it is in the
-    /// end no longer. `AllocError` if there is no memory for it: then the end is as it was. Costs O(open operations in it).
+    /// Crashes the open operation `id`. If `counts`, an end that contains the operation moves it to its crashed ones. Otherwise the end
+    /// drops it. `AllocError` if an allocation fails; the end is then as it was. Costs O(open operations in it).
     pub fn crash(&mut self, id: u32, counts: bool) -> Result<(), AllocError>
         ensures { OnOk result (end_kept self.new ≡ after_crash counts (end_kept self.old) id) }
     {

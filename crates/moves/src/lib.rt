@@ -1,8 +1,9 @@
 //! The ends of one key's legal orders, as rows of small numbers, and the moves of calls in their states.
 //!
-//! A row has the number of the end's state, and then a number for each call. The number is zero if the call is not in the end, else one
-//! more than the number of its answer. Equal ends are equal rows ([`Table`]). Ends become rows ([`table_of_ends`]), and rows ends
-//! ([`ends_of_table`]). A call is tried once in each state ([`step`]), and its move is remembered until the next ok ([`Moves`]).
+//! A row begins with the number of the end's state. Then it has a number for each call: zero if the end does not contain the call, and
+//! otherwise the number of its found value. Equal ends are equal rows ([`Table`]). [`table_of_ends`] makes rows of ends, and
+//! [`ends_of_table`] makes ends of rows. A call is tried once in each state ([`step`]), and its move is remembered until the next ok
+//! ([`Moves`]).
 //!
 //! A call allocates only if its result can be `AllocError`, or a refusal because memory ran out.
 #![tactic(auto)]

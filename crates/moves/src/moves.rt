@@ -1,4 +1,4 @@
-//! Moves of calls in states, by numbers.
+//! The known moves of calls in states, by numbers.
 ghost use Rattle.std.specs.Prelude.{◌≡◌, ◌+◌, ◌-◌, ◌*◌, ◌^◌, ◌<◌, ◌≤◌, ◌⊎◌, ℕ, List, [], ◌∷◌, ◌++◌, Some, IsTrue, length};
 ghost use Rattle.std.specs.Prelude.{slice_get};
 ghost use Rattle.std.specs.Prelude.{IfOk, OnOk, IfSome};
@@ -11,45 +11,46 @@ use crate::pending_op::PendingOp;
 use crate::table::{self, Table};
 use interner::founds;
 use interner::states::number_of;
-use models::{Found, SeqObject};
+use models::Found;
+use objects::Specification;
 use std::alloc::{AllocError, Global};
 
-// More moves than these are not remembered.
+// The maximum number of remembered moves.
 const MOST: usize = 1 << 20;
 
-// So many calls are looked through for one that does the same.
+// The number of first calls among which an equal call is searched.
 const FEW: usize = 16;
 
-/// The known moves of a call in a state. A target is the number of a state, and the number of the recorded answer. The numbers take 32
-/// bits, since many moves are remembered.
+/// The known moves of a call in a state. A target is the number of a state and the number of the found value. Both have 32 bits, since many
+/// moves are remembered.
 #[derive(Clone, Copy)]
 pub enum Move {
-    /// It cannot take place.
+    /// The call cannot take place.
     Nowhere,
-    /// It leads to this target alone.
+    /// The call leads to this target alone.
     To(u32, u32),
-    /// It leads to the targets of the list from the first place on, up to the second.
+    /// The call leads to several targets: those in the list from the first place up to, and without, the second.
     ToEach(u32, u32),
-    /// It was not tried yet.
+    /// The call was not tried yet.
     Untried,
 }
 
-/// The known moves of calls in the states from the base on: nothing is remembered for states with a lower number.
+/// The known moves of calls in the states from `base` on. No move is remembered for states with a lower number.
 #[derive(Drop)]
 pub struct Known {
     base: usize,
     list: Notes,
 }
 
-/// Equal calls: `run` calls from some place on do the same as the call at `representative`.
+/// Equal calls: `run` calls from a given place on have the same effect as the call at `representative`.
 #[derive(Clone, Copy)]
 pub struct Like {
     pub representative: usize,
     run: usize,
 }
 
-/// A call to try: the number of the state that it is tried in, and the place of the call. The equal call at `representative` is tried
-/// instead, and the move is remembered for it.
+/// A call to try: the number of the state, and the place of the call. The equal call at `representative` is tried instead, and the move is
+/// remembered for it.
 #[derive(Clone, Copy)]
 pub struct Attempt {
     pub number: usize,
@@ -57,19 +58,19 @@ pub struct Attempt {
     pub representative: usize,
 }
 
-/// The known moves of calls in states, with the list of targets for those that lead to several, and memory to try more of them. For each
-/// call it has the place of an equal one, which is tried instead.
+/// The known moves of calls in states. The list `targets` has the targets of moves with several. `outcomes` is memory for trying further
+/// calls. For each call there is the place of an equal one, which is tried instead.
 #[derive(Drop)]
 pub struct Moves<S> {
     known: Known,
     pub targets: Vec<(usize, usize)>,
     outcomes: Vec<(S, Found)>,
-    /// For each call the run of equal calls that begins with it, the last call first.
+    /// For each call the run of equal calls that begins with it. The last call comes first.
     likes: Vec<Like>,
 }
 
 impl<S> Moves<S> {
-    /// Nothing is known yet.
+    /// Returns a value without known moves.
     pub fn new(alloc: Global) -> Moves<S> {
         Moves {
             known: Known {
@@ -84,7 +85,8 @@ impl<S> Moves<S> {
 }
 
 impl<S: Drop> Moves<S> {
-    /// Nothing is known yet, and there is room for the calls of two clients and for one outcome of a step, since most keys need no more.
+    /// Returns a value without known moves. It has room for the calls of two clients and for one outcome of a step, since most keys need no
+    /// more.
     pub fn with_room(alloc: Global) -> Result<Moves<S>, AllocError> {
         let mut moves = Moves::new(alloc);
         moves.likes = Vec::with_capacity(alloc, 2)?;
@@ -93,8 +95,8 @@ impl<S: Drop> Moves<S> {
     }
 }
 
-// Where the move of a call in the state with this number is noted, where the notes begin with the moves in the state `base`;
-// `usize::MAX` if it is not remembered.
+// Returns the place of the note for the call at `at` in the state `number`. `usize::MAX` if the move is not remembered. The notes begin
+// with the moves in the state `base`.
 #[inline(always)]
 fn place_of(base: usize, number: usize, at: usize, call_count: usize) -> usize
     ensures { ((base ≤ number) × (result ≡ (number - base) * call_count + at))
@@ -106,7 +108,7 @@ fn place_of(base: usize, number: usize, at: usize, call_count: usize) -> usize
     ((number - base) * call_count).saturating_add(at)
 }
 
-/// Forgets all moves, and takes this base for those to come. Keeps their memory, if it is not much.
+/// Forgets all moves, and remembers moves in the states from `base` on. Keeps the memory of the moves, unless there is much of it.
 pub fn forget<S: Drop>(alloc: Global, moves: &mut Moves<S>, base: usize)
     ensures known { AreUntried moves.new.known.list }
     ensures targets { moves.new.targets.items ≡ [] }
@@ -120,7 +122,7 @@ pub fn forget<S: Drop>(alloc: Global, moves: &mut Moves<S>, base: usize)
     moves.targets.clear();
 }
 
-// Forgets all moves if their targets are very many.
+// Forgets all moves if they have very many targets.
 fn forget_many<S: Drop>(alloc: Global, moves: &mut Moves<S>)
     ensures moves { (moves.new ≡ moves.old) ⊎ AreUntried moves.new.known.list }
     ensures likes { moves.new.likes ≡ moves.old.likes }
@@ -130,7 +132,7 @@ fn forget_many<S: Drop>(alloc: Global, moves: &mut Moves<S>)
     }
 }
 
-// The known move of the call at this place in the state with this number.
+// Returns the known move of the call at `at` in the state `number`.
 fn known_of(known: &Known, number: usize, at: usize, call_count: usize) -> Move
     ensures { (result ≡ Move.Untried) ⊎ (result ≡ known_at known.now call_count number at) }
 {
@@ -139,7 +141,7 @@ fn known_of(known: &Known, number: usize, at: usize, call_count: usize) -> Move
         .noted_at(place_of(known.base, number, at, call_count))
 }
 
-// Remembers what the call at this place does in the state with this number.
+// Remembers the move of the call at `at` in the state `number`.
 #[inline(always)]
 fn remember(
     known: &mut Known,
@@ -159,8 +161,8 @@ fn remember(
     known.list.note(place, to)
 }
 
-// The target that is this outcome.
-fn target_of<M: SeqObject>(
+// Returns the target for this outcome, and adds its state and found value to the table if they are new.
+fn target_of<M: Specification>(
     table: &mut Table<M::State>,
     crashed: bool,
     state: M::State,
@@ -174,8 +176,8 @@ fn target_of<M: SeqObject>(
     Ok((number, slot))
 }
 
-// Puts the targets that are these outcomes behind the others.
-fn put_targets<M: SeqObject>(
+// Appends the targets for these outcomes to `targets`.
+fn put_targets<M: Specification>(
     table: &mut Table<M::State>,
     targets: &mut Vec<(usize, usize)>,
     crashed: bool,
@@ -193,7 +195,8 @@ fn put_targets<M: SeqObject>(
     Ok(())
 }
 
-// The move to each target of the list from this place on. `AllocError` if they are 2^32, since the numbers have 32 bits.
+// Returns the move to each target of the list from index `first` on. `AllocError` if there are 2^32 targets or more, since the numbers have
+// 32 bits.
 fn move_to_each_from(targets: &[(usize, usize)], first: usize) -> Result<Move, AllocError>
     ensures { IfOk result (λ to. to ≡ Move.ToEach first (length targets.now)) }
 {
@@ -203,7 +206,7 @@ fn move_to_each_from(targets: &[(usize, usize)], first: usize) -> Result<Move, A
     Ok(Move::ToEach(first as u32, targets.len() as u32))
 }
 
-// The move to this target. If its numbers take more than 32 bits, it is put behind the others.
+// Returns the move to this target. If its numbers do not fit in 32 bits, the target is appended to `targets`.
 #[inline(always)]
 fn move_to_one(
     targets: &mut Vec<(usize, usize)>,
@@ -223,8 +226,8 @@ fn move_to_one(
     move_to_each_from(targets, first)
 }
 
-// The move to these outcomes, whose targets are put behind the others. If there is one, it mostly needs no place there.
-fn move_to<M: SeqObject>(
+// Returns the move for these outcomes. Appends their targets to `targets`, which is rarely necessary for a single outcome.
+fn move_to<M: Specification>(
     table: &mut Table<M::State>,
     targets: &mut Vec<(usize, usize)>,
     crashed: bool,
@@ -249,7 +252,7 @@ fn move_to<M: SeqObject>(
     }
 }
 
-// Whether both calls do the same.
+// Returns whether both calls have the same effect.
 fn is_alike(call: &PendingOp, other: &PendingOp) -> bool
     ensures op { IsTrue result → call.now.op ≡ other.now.op }
     ensures crashed { IsTrue result → call.now.crashed ≡ other.now.crashed }
@@ -260,7 +263,8 @@ fn is_alike(call: &PendingOp, other: &PendingOp) -> bool
         && call.crashed == other.crashed
 }
 
-// The place of the first call that does the same as the call at `at`, if it is among the first few calls.
+// Returns the place of the first call with the same effect as the call at `at`. Searches only the first few calls, and returns `at` if
+// there is none.
 fn first_alike(calls: &[PendingOp], at: usize) -> usize
     requires within { at < length calls.now }
     ensures { IsAlike calls.now at result }
@@ -274,7 +278,7 @@ fn first_alike(calls: &[PendingOp], at: usize) -> usize
     at
 }
 
-/// Notes which calls do the same. Costs O(calls): each is compared with the first 16 at most.
+/// Finds the calls that have the same effect. Costs O(calls): each call is compared with at most the first 16.
 pub fn note_likes<S>(moves: &mut Moves<S>, calls: &[PendingOp]) -> Result<(), AllocError>
     ensures likes { OnOk result (AreAlike calls.now moves.new.likes.items) }
     ensures known { moves.new.known ≡ moves.old.known }
@@ -292,7 +296,7 @@ pub fn note_likes<S>(moves: &mut Moves<S>, calls: &[PendingOp]) -> Result<(), Al
     Ok(())
 }
 
-// The run of equal calls that begins with the one at this place, by the run that begins with the next one.
+// Returns the run of equal calls that begins with the call at `at`. `next` is the run that begins with the next call.
 #[inline(always)]
 fn like_before(calls: &[PendingOp], at: usize, next: Like) -> Like
     requires within { at < length calls.now }
@@ -308,7 +312,7 @@ fn like_before(calls: &[PendingOp], at: usize, next: Like) -> Like
     }
 }
 
-// Whether both places are the same, or the call at `place` comes earlier and does the same as the call at `at`.
+// Returns whether both places are the same, or the call at `place` comes earlier and has the same effect as the call at `at`.
 #[inline(always)]
 fn does_as(calls: &[PendingOp], at: usize, place: usize) -> bool
     requires within { at < length calls.now }
@@ -317,7 +321,7 @@ fn does_as(calls: &[PendingOp], at: usize, place: usize) -> bool
     place == at || place < at && is_alike(&calls[place], &calls[at])
 }
 
-// The call at this place as a run of its own, equal to a call that is looked for among the first few.
+// Returns a new run with the call at `at`. Its representative is searched among the first few calls.
 #[inline(never)]
 fn like_anew(calls: &[PendingOp], at: usize) -> Like
     requires within { at < length calls.now }
@@ -330,7 +334,7 @@ fn like_anew(calls: &[PendingOp], at: usize) -> Like
     }
 }
 
-/// The run of equal calls that begins with the one at this place. Takes constant time.
+/// Returns the run of equal calls that begins with the call at `at`. Takes constant time.
 pub fn run_of_equal_calls<S>(moves: &Moves<S>, calls: &[PendingOp], at: usize) -> Like
     requires within { at < length calls.now }
     ensures within { result.representative ≤ at }
@@ -346,8 +350,8 @@ pub fn run_of_equal_calls<S>(moves: &Moves<S>, calls: &[PendingOp], at: usize) -
     }
 }
 
-/// How many of the calls from this place on that do the same are known to lead nowhere from the state with this number: all or
-/// none. Takes constant time.
+/// Returns the number of calls in the run from `at` on, if they are known to lead nowhere from the state `number`, and otherwise 0. Takes
+/// constant time.
 #[inline(always)]
 pub fn count_leading_nowhere<S>(
     moves: &Moves<S>,
@@ -367,7 +371,7 @@ pub fn count_leading_nowhere<S>(
     }
 }
 
-/// The known move of the call at this place in the state with this number, if it was tried. Takes constant time.
+/// Returns the known move of the call at `at` in the state `number`, if the call was tried there. Takes constant time.
 pub fn recalled<S>(moves: &Moves<S>, number: usize, at: usize, call_count: usize) -> Option<Move>
     ensures { IfSome result (λ to. (to ≡ known_at moves.now.known call_count number at)
         × IsKnown to moves.now.targets.items) }
@@ -383,9 +387,10 @@ pub fn recalled<S>(moves: &Moves<S>, number: usize, at: usize, call_count: usize
     }
 }
 
-/// Tries the call in the state with this number, and remembers its move. `AllocError` if there is no memory for the outcomes or for the
-/// move. Takes one step. Costs a look-up of each outcome, and O(moves) if the list of moves grows.
-pub fn try_call<M: SeqObject>(
+/// Tries the call at `at` in the state `number`, and remembers its move. `AllocError` if an allocation for the outcomes or for the move
+/// fails. Takes one step. Costs a look-up of each outcome, and O(moves) if the list of moves grows.
+pub fn try_call<M: Specification>(
+    specification: M,
     table: &mut Table<M::State>,
     moves: &mut Moves<M::State>,
     number: usize,
@@ -394,10 +399,10 @@ pub fn try_call<M: SeqObject>(
     applied: &mut u64,
 ) -> Result<Move, AllocError>
     requires within { at < length calls.now }
-    ensures moves { OnOk result (KeepMoves M.apply_to calls.now table.old table.new moves.old moves.new) }
+    ensures moves { OnOk result (KeepMoves (M.outcomes_of specification) calls.now table.old table.new moves.old moves.new) }
     ensures does { (s : M.State) (c : PendingOp) → slice_get table.old.states number ≡ Some s
         → slice_get calls.now at ≡ Some c
-        → IfOk result (λ to. AreTo table.new c.crashed (M.apply_to c.op s)
+        → IfOk result (λ to. AreTo table.new c.crashed (M.outcomes_of specification c.op s)
         (targets_of to moves.new.targets.items)) }
     ensures known { IfOk result (λ to. IsKnown to moves.new.targets.items) }
     ensures tries { OnlyTries table.old table.new applied.old applied.new }
@@ -408,7 +413,14 @@ pub fn try_call<M: SeqObject>(
     let Some(state) = table.states.get(number) else {
         return Ok(Move::Nowhere);
     };
-    table::step::<M>(table.alloc, state, &call.op, &mut moves.outcomes, applied)?;
+    table::step::<M>(
+        specification,
+        table.alloc,
+        state,
+        &call.op,
+        &mut moves.outcomes,
+        applied,
+    )?;
     let to = move_to::<M>(table, &mut moves.targets, call.crashed, &mut moves.outcomes)?;
     remember(&mut moves.known, number, at, calls.len(), to)?;
     Ok(to)

@@ -1,4 +1,4 @@
-//! Moves that are noted by places, and forgotten all at once.
+//! Notes of moves by places, which can be forgotten all at once.
 ghost use Rattle.std.specs.Prelude.{◌≡◌, ◌+◌, ◌-◌, ◌^◌, ◌<◌, ◌≤◌, ◌⊎◌, ℕ, [], length, get_or, OnOk};
 ghost use Rattle.moves.specs.Notes.{AreBefore, AreUntried, nothing};
 
@@ -6,20 +6,20 @@ use crate::moves::Move;
 use std::alloc::{AllocError, Global};
 use std::marker::Model;
 
-// So many places more are made at once, at most.
+// The maximum number of further places that are added at once.
 const MORE: usize = 64;
 
-/// The memory of more moves, or of more targets, than these is not kept.
+/// The maximum number of moves or targets whose memory is kept.
 pub const MOST_KEPT: usize = 1 << 14;
 
-// A move, and the stamp that it was noted with.
+// A move, and the stamp with which it was noted.
 #[derive(Clone, Copy)]
 struct Noted {
     stamp: u32,
     to: Move,
 }
 
-/// Which move is noted at each place. A note with another stamp than the present one says nothing, so a new stamp forgets all notes.
+/// The noted move of each place. A note counts only if its stamp is the current one, so a new stamp forgets all notes.
 #[derive(Drop)]
 pub struct Notes {
     stamp: u32,
@@ -39,7 +39,7 @@ impl Model for Notes {
 }
 
 impl Notes {
-    /// Nothing is noted.
+    /// Returns a value without notes.
     pub fn new(alloc: Global) -> Notes
         ensures { result ≡ [] }
     {
@@ -49,7 +49,7 @@ impl Notes {
         }
     }
 
-    /// The move that is noted at this place. There is none behind all places that a list has.
+    /// Returns the noted move at `place`. There are no notes at places beyond the end of the list.
     #[inline(always)]
     pub fn noted_at(&self, place: usize) -> Move
         ensures noted { result ≡ get_or self.now place Move.Untried }
@@ -61,7 +61,7 @@ impl Notes {
         }
     }
 
-    /// Notes the move at this place.
+    /// Notes the move at `place`.
     #[inline(always)]
     pub fn note(&mut self, place: usize, to: Move) -> Result<(), AllocError>
         requires { place < 1048576 }
@@ -72,7 +72,7 @@ impl Notes {
         put_at(&mut self.list, place, Noted { stamp, to })
     }
 
-    /// Forgets all that is noted. Keeps its memory, if it is not much. Takes constant time except for one call in 2^32.
+    /// Forgets all notes. Keeps their memory, unless there is much of it. Takes constant time except for one call in 2^32.
     pub fn forget(&mut self, alloc: Global)
         ensures { AreUntried self.new }
     {
@@ -80,7 +80,7 @@ impl Notes {
     }
 }
 
-// The stamp that follows. The list is cleared if it would be the first one again, and replaced if it has much memory.
+// Returns the next stamp. Clears the list when the stamps begin again, and replaces a list that has much memory.
 fn stamp_after(alloc: Global, stamp: u32, list: &mut Vec<Noted>) -> u32
     requires { AreBefore list.old.items (stamp + 1) }
     ensures { AreBefore list.new.items result }
@@ -95,7 +95,7 @@ fn stamp_after(alloc: Global, stamp: u32, list: &mut Vec<Noted>) -> u32
     stamp + 1
 }
 
-// Makes the list longer, so that it has this place, and some behind it.
+// Extends the list to contain `place` and some places after it.
 #[inline(never)]
 fn lengthen(list: &mut Vec<Noted>, place: usize) -> Result<(), AllocError>
     requires place { place < 1048576 }
@@ -111,7 +111,7 @@ fn lengthen(list: &mut Vec<Noted>, place: usize) -> Result<(), AllocError>
     Ok(())
 }
 
-// Puts what is noted at this place.
+// Stores the note at `place`.
 #[inline(always)]
 fn put_at(list: &mut Vec<Noted>, place: usize, noted: Noted) -> Result<(), AllocError>
     requires { place < 1048576 }

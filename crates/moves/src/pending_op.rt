@@ -15,7 +15,7 @@ pub struct PendingOp {
     pub crashed: bool,
 }
 
-/// The same calls, which share the members of sets. Costs O(calls).
+/// Returns equal calls, which share the members of sets. Costs O(calls).
 pub fn copy_calls(alloc: Global, calls: &[PendingOp]) -> Result<Vec<PendingOp>, AllocError>
     ensures { IfOk result (λ copies. copies.items ≡ calls.now) }
 {
@@ -31,21 +31,21 @@ pub fn copy_calls(alloc: Global, calls: &[PendingOp]) -> Result<Vec<PendingOp>, 
     Ok(copies)
 }
 
-/// Takes the operation out, if it is there. Costs O(calls).
+/// Removes operation `id`, if the calls contain it. Costs O(calls).
 pub fn drop_call(calls: &mut Vec<PendingOp>, id: u32)
     ensures { calls.new.items ≡ filter (is_other id) calls.old.items }
 {
     calls.retain(|call| call.id != id);
 }
 
-// Whether the call is of this operation, which is a read.
+// Returns whether the call is of operation `id` and is a read.
 fn is_read_of(call: &PendingOp, id: u32) -> bool
     ensures { IsTrue result ↔ (call.now.id ≡ id) × (call.now.op.name ≡ Name.Read) }
 {
     call.id == id && call.op.name == Name::Read
 }
 
-/// Whether the operation is among the calls and is a read. Costs O(calls).
+/// Returns whether the calls contain operation `id` and it is a read. Costs O(calls).
 pub fn is_read(calls: &[PendingOp], id: u32) -> bool
     ensures { IsTrue result ↔ HasRead calls.now id }
 {
@@ -57,7 +57,7 @@ pub fn is_read(calls: &[PendingOp], id: u32) -> bool
     false
 }
 
-/// The operation has crashed: it becomes a crashed one if it counts, and else is removed. Costs O(calls).
+/// Crashes operation `id`: it becomes a crashed call if `counts`, and is otherwise removed. Costs O(calls).
 pub fn crash_call(calls: &mut Vec<PendingOp>, id: u32, counts: bool)
     ensures { calls.new.items ≡ calls_after_crash counts id calls.old.items }
 {
@@ -68,7 +68,7 @@ pub fn crash_call(calls: &mut Vec<PendingOp>, id: u32, counts: bool)
     }
 }
 
-// Tells the operation as a crashed one.
+// Marks operation `id` as crashed.
 fn mark_crashed(calls: &mut [PendingOp], id: u32)
     ensures { calls.new ≡ map (crash_call id) calls.old }
 {

@@ -15,17 +15,18 @@ use crate::kept_end::{KeptEnd, found_in, has};
 use crate::moves::{self, Attempt, Move, Moves};
 use crate::pending_op::PendingOp;
 use interner::{FoundTable, States, founds, states};
-use models::{Found, Op, SeqObject};
+use models::{Found, Op};
+use objects::Specification;
 use rows::{Row, RowSet};
 use std::alloc::{AllocError, Global};
 use std::hash::Hash;
 
-// So many states are few.
+// The number of states up to which moves are remembered for all states.
 const FEW_STATES: usize = 64;
 
-/// The ends that a frontier keeps, and during an ok also the ends that it finds, each as a row of numbers. The first number is the place of
-/// the state. Then each call has a number: zero if the end does not include the call, else the place of its answer plus one. Each state and
-/// each answer is stored once, so equal ends are equal rows. The memory comes from `alloc`.
+/// Ends as rows of numbers: the ends that a frontier keeps and, during an ok, the ends that it finds. The first number of a row is the
+/// number of the state. Then the row has a number for each call: zero if the end does not contain it, and otherwise the number of its found
+/// value. Each state and each found value is stored once, so equal ends are equal rows. The memory comes from `alloc`.
 pub struct Table<S: Hash + Drop> {
     pub alloc: Global,
     pub states: States<S>,
@@ -33,7 +34,7 @@ pub struct Table<S: Hash + Drop> {
     pub rows: RowSet,
 }
 
-// So that crates above give one back by one call.
+// With this implementation, a crate above drops a table by one call.
 impl<S: Hash + Drop> Drop for Table<S> {
     fn drop(self) {
         let Table {
@@ -45,7 +46,7 @@ impl<S: Hash + Drop> Drop for Table<S> {
     }
 }
 
-// The number of the answer, and zero if there is none.
+// Returns the number of the found value, or zero for `None`.
 fn slot_of(founds: &mut FoundTable, found: Option<Found>) -> Result<usize, AllocError>
     ensures slot { IfOk result (λ slot. IsSlot founds.new slot found) }
     ensures front { IsPrefixOf founds.old founds.new }
@@ -57,7 +58,8 @@ fn slot_of(founds: &mut FoundTable, found: Option<Found>) -> Result<usize, Alloc
     }
 }
 
-// The end's record of the call: nothing if the call is not in it, `Unit` if the call has crashed, and else its answer.
+// Returns the end's record of the call: `None` if the end does not contain it, `Unit` if the call has crashed, and otherwise the found
+// value.
 fn found_by<S>(kept: &KeptEnd<S>, call: &PendingOp) -> Result<Option<Found>, AllocError>
     ensures { IfOk result (λ found. found ≡ found_by (end_kept kept.now) call.now) }
 {
@@ -75,8 +77,8 @@ fn found_by<S>(kept: &KeptEnd<S>, call: &PendingOp) -> Result<Option<Found>, All
     }
 }
 
-// The row of the end.
-fn row_of<M: SeqObject>(
+// Returns the row of the end, and adds its state and found values to the table if they are new.
+fn row_of<M: Specification>(
     table: &mut Table<M::State>,
     kept: &KeptEnd<M::State>,
     calls: &[PendingOp],
@@ -96,24 +98,25 @@ fn row_of<M: SeqObject>(
 }
 
 /// Writes the outcomes of the operation in the state: one step, which is counted. No other function tries an operation. `AllocError` if
-/// there is no memory for them; the step is counted then too. Costs what [`SeqObject::append_outcomes`] costs.
-pub fn step<M: SeqObject>(
+/// there is no memory for them; the step is counted then too. Costs what [`Specification::append_outcomes`] costs.
+pub fn step<M: Specification>(
+    specification: M,
     alloc: Global,
     state: &M::State,
     op: &Op,
     outcomes: &mut Vec<(M::State, Found)>,
     applied: &mut u64,
 ) -> Result<(), AllocError>
-    ensures outcomes { OnOk result (outcomes.new.items ≡ M.apply_to op.now state.now) }
+    ensures outcomes { OnOk result (outcomes.new.items ≡ M.outcomes_of specification op.now state.now) }
     ensures counted { applied.new ≡ min (applied.old + 1) (2 ^ 64 - 1) }
     ensures never_falls { applied.old ≤ applied.new }
 {
     *applied = applied.saturating_add(1);
     outcomes.clear();
-    M::append_outcomes(alloc, state, op, outcomes)
+    specification.append_outcomes(alloc, state, op, outcomes)
 }
 
-/// The state with this number. It is the state of each row whose first number this is. Takes constant time.
+/// Returns the state with this number, which is the state of each row that begins with the number. Takes constant time.
 pub fn state_numbered<S: Hash + Drop>(table: &Table<S>, number: usize) -> Option<&S>
     ensures { (calls : List PendingOp) (row : List ℕ) (e : End S) → number ≡ get_or row 0 0
         → Shows table.now calls row e → IsSomeAnd result (λ s. s.now ≡ e.state) }
@@ -121,8 +124,8 @@ pub fn state_numbered<S: Hash + Drop>(table: &Table<S>, number: usize) -> Option
     table.states.get(number)
 }
 
-/// The first state for which moves are remembered. It is the state of the first row, since rows seldom have earlier states. If there are
-/// few states, it is the first state, since few states are met again and again. Takes constant time.
+/// Returns the number of the first state for which moves are remembered. It is the state of the first row, since rows rarely have earlier
+/// states. If there are few states, it is the first state, since few states occur again and again. Takes constant time.
 pub fn first_remembered_state<S: Hash + Drop>(table: &Table<S>) -> usize {
     if table.states.len() > FEW_STATES {
         table.rows.number(0, 0)
@@ -131,16 +134,17 @@ pub fn first_remembered_state<S: Hash + Drop>(table: &Table<S>) -> usize {
     }
 }
 
-/// The end's record of a call's answer: `Unit` if the call has crashed.
+/// Returns the end's record of a found value: `Unit` if the call has crashed.
 pub fn told_by(crashed: bool, found: Found) -> Found
     ensures { result ≡ told_by crashed found }
 {
     if crashed { Found::Unit } else { found }
 }
 
-/// Where the call, which is not in it, leads from the end of the row; the row itself is for the contract alone. Takes constant time
-/// if that is known, and else one step, and the time of looking its outcomes up.
-pub fn led_to<M: SeqObject>(
+/// Returns the move of a call from the end of the row, which does not contain the call. The parameter `row` is used in clauses only. Takes
+/// constant time if the move is known. Otherwise it takes one step, and looks up its outcomes.
+pub fn led_to<M: Specification>(
+    specification: M,
     table: &mut Table<M::State>,
     moves: &mut Moves<M::State>,
     row: &Row,
@@ -152,9 +156,9 @@ pub fn led_to<M: SeqObject>(
     requires before { attempt.representative ≤ attempt.at }
     requires number { attempt.number ≡ get_or row.now 0 0 }
     requires zero_there { slice_get row.now (attempt.at + 1) ≡ Some 0 }
-    ensures moves { OnOk result (KeepMoves M.apply_to calls.now table.old table.new moves.old moves.new) }
-    ensures next { let object = of_table M.State M.start_state M.apply_to in
-        AreMoves M.apply_to table.old calls.now moves.old.known moves.old.targets.items
+    ensures moves { OnOk result (KeepMoves (M.outcomes_of specification) calls.now table.old table.new moves.old moves.new) }
+    ensures next { let object = of_table M.State (M.start_of specification) (M.outcomes_of specification) in
+        AreMoves (M.outcomes_of specification) table.old calls.now moves.old.known moves.old.targets.items
         → IsAlike calls.now attempt.at attempt.representative → HasEachOnce calls.now
         → (c : PendingOp) (e : End M.State) → slice_get calls.now attempt.at ≡ Some c
         → Shows table.old calls.now row.now e
@@ -167,11 +171,19 @@ pub fn led_to<M: SeqObject>(
     let number = attempt.number;
     match moves::recalled(moves, number, attempt.representative, calls.len()) {
         Some(to) => Ok(to),
-        None => moves::try_call::<M>(table, moves, number, calls, attempt.representative, applied),
+        None => moves::try_call::<M>(
+            specification,
+            table,
+            moves,
+            number,
+            calls,
+            attempt.representative,
+            applied,
+        ),
     }
 }
 
-/// A table without ends.
+/// Returns a table without ends.
 pub fn empty<S: Hash + Drop>(alloc: Global) -> Table<S>
     ensures { rows_of result ≡ [] }
 {
@@ -183,7 +195,7 @@ pub fn empty<S: Hash + Drop>(alloc: Global) -> Table<S>
     }
 }
 
-/// Removes all ends, with their states and answers, and keeps the memory of their lists. Costs O(states + answers).
+/// Removes all ends, with their states and found values, and keeps the memory of their lists. Costs O(states + found values).
 pub fn clear<S: Hash + Drop>(table: &mut Table<S>)
     ensures { rows_of table.new ≡ [] }
 {
@@ -192,9 +204,9 @@ pub fn clear<S: Hash + Drop>(table: &mut Table<S>)
     table.rows.restart(0);
 }
 
-/// Replaces the rows of the table by the rows of these ends, in order. Equal ends become one row. `AllocError` if there is no memory: then
-/// some of the rows are there. Costs a copy of each end's state, and a search for each call in each end.
-pub fn refill<M: SeqObject>(
+/// Replaces the rows of the table by the rows of `ends`, in order. Equal ends become one row. `AllocError` if an allocation fails; some of
+/// the rows are there then. Costs a copy of each end's state, and a search for each call in each end.
+pub fn refill<M: Specification>(
     table: &mut Table<M::State>,
     ends: &[KeptEnd<M::State>],
     calls: &[PendingOp],
@@ -212,9 +224,8 @@ pub fn refill<M: SeqObject>(
     Ok(())
 }
 
-/// The ends as rows, in order; ends that are the same become one row. Costs a copy of each end's state, and a search for each call in each
-/// end.
-pub fn table_of_ends<M: SeqObject>(
+/// Returns the ends as rows, in order. Equal ends become one row. Costs a copy of each end's state, and a search for each call in each end.
+pub fn table_of_ends<M: Specification>(
     alloc: Global,
     ends: &[KeptEnd<M::State>],
     calls: &[PendingOp],
@@ -228,7 +239,7 @@ pub fn table_of_ends<M: SeqObject>(
     Ok(table)
 }
 
-/// The answer of the call at this place, by the row at `row_at`, if the call is in it. Takes constant time.
+/// Returns the found value of the call at `at` in the row at `row_at`, if the row contains the call. Takes constant time.
 pub fn found_in_row<'a, S: Hash + Drop>(
     table: &'a Table<S>,
     row_at: usize,
@@ -250,7 +261,7 @@ pub fn found_in_row<'a, S: Hash + Drop>(
     }
 }
 
-// Adds the record of the call at this place to the end.
+// Adds the record of the call at `at` to the end, if the row at `row_at` contains the call.
 fn include_at<S: Hash + Drop>(
     kept: &mut KeptEnd<S>,
     table: &Table<S>,
@@ -273,8 +284,8 @@ fn include_at<S: Hash + Drop>(
     }
 }
 
-// The row at `row_at` as an end. `None` if the row has no state; each row of an end has one.
-fn kept_of<M: SeqObject>(
+// Returns the row at `row_at` as an end. `None` if the row has no state, which never happens for the row of an end.
+fn kept_of<M: Specification>(
     table: &Table<M::State>,
     row_at: usize,
     calls: &[PendingOp],
@@ -297,8 +308,8 @@ fn kept_of<M: SeqObject>(
     Ok(Some(kept))
 }
 
-/// The ends that the rows say, in order. Costs O(all numbers of the rows), and a copy of each row's state.
-pub fn ends_of_table<M: SeqObject>(
+/// Returns the ends that the rows stand for, in order. Costs O(all numbers of the rows), and a copy of each row's state.
+pub fn ends_of_table<M: Specification>(
     table: &Table<M::State>,
     calls: &[PendingOp],
 ) -> Result<Vec<KeptEnd<M::State>>, AllocError>

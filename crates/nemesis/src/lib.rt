@@ -1,5 +1,5 @@
-//! Schedules of faults: the fault that is due at a length of the history. A schedule is a list whose lengths never fall, with the number of
-//! faults that were taken.
+//! Schedules of faults: the fault that is due at a given length of the history. A schedule is a list of faults with lengths that never
+//! fall, and the number of faults that were taken.
 #![tactic(auto)]
 
 mod schedule;

@@ -1,4 +1,4 @@
-//! Faults, each at a length of the history.
+//! Faults, each with a length of the history.
 ghost use Rattle.std.specs.Prelude.{◌≡◌};
 ghost use Rattle.std.specs.Option.{option_copied};
 ghost use Rattle.nemesis.specs.Schedules.{NeverFalls, due_at, after_first};
@@ -6,8 +6,8 @@ ghost use Rattle.nemesis.specs.Schedules.{NeverFalls, due_at, after_first};
 use events::Fault;
 use std::marker::Model;
 
-/// Faults that are to come, in order, each with the length of the history from which it is due. A clause sees them as
-/// the list of those that were not taken.
+/// The faults to come, in order, each with the length of the history from which on it is due. For clauses it is the list of the faults that
+/// were not taken.
 #[derive(Drop)]
 pub struct Schedule {
     faults: Vec<(u32, Fault)>,
@@ -26,7 +26,7 @@ impl Model for Schedule {
 }
 
 impl Schedule {
-    /// These faults, each with the length of the history from which it is due, which never falls.
+    /// Returns a schedule of these faults. A fault is due if the history has at least the length beside the fault. The lengths never fall.
     pub fn new(faults: Vec<(u32, Fault)>) -> Schedule
         requires { NeverFalls faults.items }
         ensures { result ≡ faults.items }
@@ -34,7 +34,7 @@ impl Schedule {
         Schedule { faults, taken: 0 }
     }
 
-    /// The first fault that was not taken, if it is due at this length of the history.
+    /// Returns the first fault that was not taken, if it is due at this length of the history.
     pub fn due(&self, length: u32) -> Option<&Fault>
         ensures { option_copied result ≡ due_at length self.now }
     {
@@ -45,7 +45,7 @@ impl Schedule {
         if *at <= length { Some(fault) } else { None }
     }
 
-    /// The faults that were not taken, in order, each with the length of the history from which it is due.
+    /// Returns the faults that were not taken, in order, each with the length of the history from which on it is due.
     pub fn faults(&self) -> &[(u32, Fault)]
         ensures { result.now ≡ self.now }
     {

@@ -1,10 +1,10 @@
 -- the values of terms one after the other, of which the first ones are read
 use Rattle.std.proofs.Common.{◌≡◌, ℕ, ◌+◌, ◌<◌, ◌≤◌, ℤ, Option, Some, List, [], ◌∷◌, ◌++◌, length, map, drop, get_or, refl, sym, ap, ◌∙◌, subst, append_assoc, drop-cons, add-one, Vec, Result, Ok, Err, IfOk}
 use Rattle.std.proofs.lemmas.List.{append-nil, drop_all}
-use Rattle.edn.specs.Value.{Value, nil, bool, int, text, keyword, vector, pairs, members, more}
-use Rattle.edn.specs.View.{value_of as spelled, values_of}
+use Rattle.edn_values.specs.Value.{Value, nil, bool, int, text, keyword, vector, pairs, members, more}
+use Rattle.edn_values.specs.View.{value_of as spelled, values_of}
 use Rattle.std.specs.declared.alloc.Global.{Global}
-use Rattle.edn.specs.declared.value.Edn.{Edn, Vector}
+use Rattle.edn_values.specs.declared.value.Edn.{Edn, Vector}
 use Rattle.edn.proofs.Views.{view-Vector}
 use Rattle.rules.specs.Meaning.{State, with_value, value_of}
 use Rattle.rules.specs.declared.term.Term.{Term}

@@ -1,9 +1,9 @@
 -- Promise: the value that an element of a file of objects spells, in a state and with the integers that are given to the operation. As in
--- rules, `None` says that there is no value, and `Some None` that it is nil
+-- rules, `None` says that it has no value, and `Some None` that the value is nil
 use Rattle.std.specs.Prelude.{◌≡◌, ℕ, ◌+◌, ℤ, pos, Bool, true, false, if◌then◌else◌, Option, Some, None, option_map, List, [], ◌∷◌, slice_get, position, String, string_bytes, codes}
 use Rattle.std.specs.declared.alloc.Global.{Global}
 use Rattle.std.specs.Str.{bytes_eq}
-use Rattle.edn.specs.Value.{Value, nil, bool, int, text, keyword, vector, pairs, members, Values, none, more}
+use Rattle.edn_values.specs.Value.{Value, nil, bool, int, text, keyword, vector, pairs, members, Values, none, more}
 use Rattle.rules.specs.declared.term.Operator.{Operator}
 use Rattle.rules.specs.declared.term.Operator.TheVariants.{Plus, Minus, Mod, Min, Max, Eq, Ne, Lt, Le, Gt, Ge}
 use Rattle.rules.specs.declared.term.Term.{Term}
@@ -14,21 +14,21 @@ use Rattle.object_terms.specs.declared.function.Function.TheVariants.{Both, All,
 
 -- ---- names
 
--- the place of the first of these names that is spelled so
+-- the place of the first of these names with this spelling
 abbrev pub place_in : List ℕ → List (String Global) → Option ℕ
 place_in name names = position (λ other. bytes_eq (string_bytes other) name) names
 
--- the integer of a place among those that are given
+-- the given integer at a place
 abbrev pub given_at : List ℤ → ℕ → Option (Option ℤ)
 given_at given place = option_map Some (slice_get given place)
 
--- an argument, whose place is behind that of the client if the client is given, or else a variable
+-- an argument, which is after the client if the client is given; or else a variable
 abbrev pub value_of_place : Bool → Option ℕ → Option ℕ → State → List ℤ → Option (Option ℤ)
 value_of_place asks (Some argument) variable state given = given_at given (argument + (if asks then 1 else 0))
 value_of_place asks None (Some variable) state given = slice_get state variable
 value_of_place asks None None state given = None
 
--- the names that a case may use: variables and arguments by their places, and whether the client is given before the arguments
+-- the names that a case may use: variables and arguments by place, and whether the client is before the arguments
 pub record Known : Type 0 where
   pub variables : List (String Global)
   pub arguments : List (String Global)
@@ -66,21 +66,21 @@ function_named name =
     if bytes_eq name (codes "not") then Some Not else
     if bytes_eq name (codes "if") then Some Choice else option_map Both (operator_named name)
 
--- the second value if the first is true, and the third if it is false. The other one need not exist
+-- the second value if the first is true, and the third if the first is false. The value that is not chosen may be missing
 abbrev pub choice : Option (Option ℤ) → Option (Option ℤ) → Option (Option ℤ) → Option (Option ℤ)
 choice condition a b = with_value condition (λ c. with_value (truth_in c) (λ truth. chosen truth a b))
 
--- whether all are true, from the left and no further than needed
+-- whether all values are true, computed from the left up to the first false one
 abbrev pub all_of : List (Option (Option ℤ)) → Option (Option ℤ)
 all_of [] = Some (number_of true)
 all_of (v ∷ vs) = choice v (all_of vs) (Some (number_of false))
 
--- whether one is true, from the left and no further than needed
+-- whether one value is true, computed from the left up to the first true one
 abbrev pub any_of : List (Option (Option ℤ)) → Option (Option ℤ)
 any_of [] = Some (number_of false)
 any_of (v ∷ vs) = choice v (Some (number_of true)) (any_of vs)
 
--- the function of these values
+-- the function, applied to these values
 abbrev pub applied : Function → List (Option (Option ℤ)) → Option (Option ℤ)
 applied (Both operator) (a ∷ b ∷ []) = with_value a (λ x. with_value b (λ y. combined operator x y))
 applied All vs = all_of vs
@@ -91,14 +91,14 @@ applied _ _ = None
 
 -- ---- values
 
--- nil, true, false or an integer. 1 says true, and 0 false
+-- nil, true, false or an integer. 1 means true, and 0 means false
 abbrev pub constant_in : Value → Option (Option ℤ)
 constant_in nil = Some None
 constant_in (bool b) = Some (number_of b)
 constant_in (int z) = Some (Some z)
 constant_in _ = None
 
--- a vector of the name of a function, whose values are those behind the first
+-- a vector of the name of a function, applied to the values of the elements after the name
 abbrev pub called : Values → List (Option (Option ℤ)) → Option (Option ℤ)
 called (more (keyword name) vs) (first ∷ values) = with_value (function_named name) (λ function. applied function values)
 called _ _ = None

@@ -1,12 +1,13 @@
-//! Values that stand in a file.
+//! Constants in a file of objects.
 ghost use Rattle.std.specs.Prelude.{◌≡◌, option_map};
-ghost use Rattle.edn.specs.View.{value_of};
+ghost use Rattle.edn_values.specs.View.{value_of};
 ghost use Rattle.object_terms.specs.Terms.{constant_in};
 
 use crate::sort::Sort;
 use edn::Edn;
 
-/// The value that stands there, and of what sort it is: nil, true, false or an integer. True is 1, and false is 0.
+/// Returns the value of a constant, and its sort: nil, true, false or an integer. True is 1, and false is 0. `None` if the element is not a
+/// constant.
 pub fn constant(element: &Edn) -> Option<(Option<i64>, Sort)>
     ensures { option_map (λ found. found.0) result ≡ constant_in (value_of element.now) }
 {

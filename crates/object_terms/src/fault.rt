@@ -1,15 +1,15 @@
-//! Why a file of objects is refused.
+//! The reason why a file of objects is refused.
 ghost use Rattle.object_terms.specs.declared.fault.Fault.TheVariants.{NoMemory};
 ghost use Rattle.std.specs.Prelude.{◌≡◌};
 
 use std::alloc::{AllocError, AllocFailed};
 
-/// Why a file of objects is refused.
+/// The reason why a file of objects is refused.
 #[derive(Drop)]
 pub enum Fault {
     /// The first fault of the file: its place, the mistake, and the remedy.
     Refused(String),
-    /// A growth in memory was refused.
+    /// An allocation failed.
     NoMemory,
 }
 
@@ -29,7 +29,7 @@ impl<T: Drop> From<AllocFailed<T>> for Fault {
     }
 }
 
-/// The fault of this text, if there was memory for it.
+/// Returns the fault with this text, or [`Fault::NoMemory`] if the allocation of the text failed.
 pub fn refused(text: Result<String, AllocError>) -> Fault {
     match text {
         Ok(text) => Fault::Refused(text),

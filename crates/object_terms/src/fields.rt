@@ -5,7 +5,8 @@ use crate::nearest::{listed, meant};
 use edn::Edn;
 use std::alloc::{AllocError, Global};
 
-/// An element in words, as short as it can be: the keyword, the integer, or what it is.
+/// Returns a short text that names the element. It is the element itself for nil, a boolean, an integer or a keyword, and otherwise its
+/// form, such as `a vector`.
 pub fn shown(alloc: Global, element: &Edn) -> Result<String, AllocError> {
     match element {
         Edn::Nil => format!(in alloc; "nil"),
@@ -20,7 +21,7 @@ pub fn shown(alloc: Global, element: &Edn) -> Result<String, AllocError> {
     }
 }
 
-/// The pairs of the map, if this is one.
+/// Returns the pairs of the map, if the element is a map.
 pub fn pairs_of(element: &Edn) -> Option<&[(Edn, Edn)]> {
     match element {
         Edn::Map(pairs) => Some(pairs.as_slice()),
@@ -28,7 +29,7 @@ pub fn pairs_of(element: &Edn) -> Option<&[(Edn, Edn)]> {
     }
 }
 
-// Whether the name is among these.
+// Returns whether `known` contains the name.
 fn is_known(name: &str, known: &[&str]) -> bool {
     for other in known {
         if *other == name {
@@ -38,7 +39,7 @@ fn is_known(name: &str, known: &[&str]) -> bool {
     false
 }
 
-/// Tests that each key of the map is one of these keywords.
+/// Tests that each key of the map is a keyword whose name is in `known`.
 pub fn test_keys(
     alloc: Global,
     at: &str,

@@ -1,4 +1,4 @@
-//! The functions that a value may name.
+//! The functions that a term in a file may call.
 ghost use Rattle.std.specs.Prelude.{◌≡◌};
 ghost use Rattle.object_terms.specs.Terms.{operator_named, function_named};
 
@@ -13,19 +13,19 @@ pub const FUNCTIONS: [&str; 15] = [
 /// A function of values.
 #[derive(Clone, Copy)]
 pub enum Function {
-    /// An operator on two values.
+    /// The operator on two values.
     Both(Operator),
-    /// Whether all values are true, from the left and no further than needed.
+    /// Whether all values are true. Evaluates from the left, and stops at the first false value.
     All,
-    /// Whether one value is true, from the left and no further than needed.
+    /// Whether at least one value is true. Evaluates from the left, and stops at the first true value.
     Any,
-    /// Whether the value is false.
+    /// Whether the only value is false.
     Not,
-    /// The second value if the first is true, and the third if it is false.
+    /// The second value if the first is true, and the third value if the first is false.
     Choice,
 }
 
-// The operator of this name.
+// Returns the operator with this name, if there is one.
 fn operator_named(name: &str) -> Option<Operator>
     ensures { result ≡ operator_named name.now }
 {
@@ -65,7 +65,7 @@ fn operator_named(name: &str) -> Option<Operator>
     None
 }
 
-/// The function of this name.
+/// Returns the function with this name, if there is one.
 pub fn function_named(name: &str) -> Option<Function>
     ensures { result ≡ function_named name.now }
 {

@@ -1,6 +1,6 @@
-//! Values in a file of objects: the words of its cases, read as terms of the crate `rules`, and the faults of a file ([`Fault`]).
+//! Values in a file of objects: the elements of its cases, read as terms of the crate `rules`, and the faults of a file ([`Fault`]).
 //!
-//! [`term_of`] gives a term that has, in each state, the value that the element spells. `specs/Terms.antt` says which value that is.
+//! [`term_of`] returns a term that has, in each state, the value that the element spells. `specs/Terms.antt` defines this value.
 //!
 //! A call allocates only if its result can be `AllocError` or [`Fault::NoMemory`].
 #![tactic(auto)]

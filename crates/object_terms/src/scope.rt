@@ -1,4 +1,4 @@
-//! The names that the words of an operation may have.
+//! The names that a term of an operation may use.
 ghost use Rattle.std.specs.Prelude.{◌≡◌, ◌+◌, ℤ, List, if◌then◌else◌, position, IfSome, IfOk};
 ghost use Rattle.rules.specs.Meaning.{State, value_of};
 ghost use Rattle.object_terms.specs.Terms.{place_in, known_by, value_named};
@@ -9,7 +9,7 @@ use crate::sort::Sort;
 use rules::{Term, Variable};
 use std::alloc::{AllocError, Global};
 
-/// The variables of the object, by their places, and the arguments of the operation; whether the client is given before them.
+/// The variables of the object by place, and the arguments of the operation. If `asks`, the client is an integer before the arguments.
 #[derive(Drop)]
 pub struct Scope<'a> {
     pub names: &'a [String],
@@ -18,14 +18,14 @@ pub struct Scope<'a> {
     pub asks: bool,
 }
 
-/// The place of the name among these.
+/// Returns the place of `name` in `names`, if it is there.
 pub fn place_of(name: &str, names: &[String]) -> Option<usize>
     ensures { result ≡ place_in name.now names.now }
 {
     names.iter().position(|other| other.as_str() == name)
 }
 
-/// The names as texts.
+/// Returns the names as borrowed texts.
 pub fn texts_of<'a>(alloc: Global, names: &'a [String]) -> Result<Vec<&'a str>, AllocError> {
     let mut texts = Vec::new(alloc);
     for name in names {
@@ -34,7 +34,7 @@ pub fn texts_of<'a>(alloc: Global, names: &'a [String]) -> Result<Vec<&'a str>, 
     Ok(texts)
 }
 
-// The place of an argument among the integers that are given.
+// Returns the place of an argument among the given integers.
 fn place_given(place: usize, asks: bool) -> Option<u8>
     ensures { IfSome result (λ at. at ≡ place + (if asks then 1 else 0)) }
 {
@@ -43,7 +43,7 @@ fn place_given(place: usize, asks: bool) -> Option<u8>
 }
 
 impl<'a> Scope<'a> {
-    // Whether the variable of this place has limits.
+    // Returns whether the variable at this place has limits.
     fn is_limited(&self, place: usize) -> bool {
         match self.variables.get(place) {
             Some(variable) => variable.limits.is_some(),
@@ -51,7 +51,7 @@ impl<'a> Scope<'a> {
         }
     }
 
-    // The term that the name stands for, and the sort of its values.
+    // Returns the term that the name stands for, and the sort of its values, if the scope has the name.
     fn found(&self, name: &str) -> Option<(Term, Sort)>
         ensures { IfSome result (λ found. (state : State) (given : List ℤ)
             → value_of found.0 state given ≡ value_named (known_by self.now) name.now state given) }
@@ -73,7 +73,8 @@ impl<'a> Scope<'a> {
         Some((Term::Variable(place), sort))
     }
 
-    /// The term that the name stands for, and the sort of its values.
+    /// Returns the term that the name stands for, and the sort of its values. [`Fault::Refused`] if the scope does not have the name,
+    /// [`Fault::NoMemory`] if an allocation fails.
     pub fn term_named(&self, alloc: Global, at: &str, name: &str) -> Result<(Term, Sort), Fault>
         ensures { IfOk result (λ found. (state : State) (given : List ℤ)
             → value_of found.0 state given ≡ value_named (known_by self.now) name.now state given) }

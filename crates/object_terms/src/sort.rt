@@ -1,4 +1,4 @@
-//! The sorts of values that a term may have, for faults that can be seen in the text.
+//! The sorts of values that a term may have. With them a reader finds faults in a file before it computes any value.
 
 /// The sort of the values of a term.
 #[derive(Clone, Copy, Debug, PartialEq, Eq)]
@@ -12,7 +12,7 @@ pub enum Sort {
 }
 
 impl Sort {
-    /// In words.
+    /// Returns the words for the sort that messages use.
     pub fn text(self) -> &'static str {
         match self {
             Sort::Number => "a number",

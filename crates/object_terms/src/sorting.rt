@@ -1,4 +1,4 @@
-//! Tests of the sorts of a function's values.
+//! Tests that the values of a function have the right sorts.
 
 use crate::fault::{Fault, refused};
 use crate::function::Function;
@@ -6,7 +6,7 @@ use crate::sort::Sort;
 use rules::{Operator, Term};
 use std::alloc::Global;
 
-// Tests that the value of this number, from 1, is not of the sort that is not wanted.
+// Tests that value `number` (counted from 1) is not a truth if a number is wanted, and not a number if a truth is wanted.
 fn test_sort(
     alloc: Global,
     at: &str,
@@ -29,13 +29,13 @@ fn test_sort(
     Ok(())
 }
 
-// Tests that both values are numbers.
+// Tests that neither of the two values is a truth.
 fn test_numbers(alloc: Global, at: &str, name: &str, a: Sort, b: Sort) -> Result<(), Fault> {
     test_sort(alloc, at, name, Sort::Number, 1, a)?;
     test_sort(alloc, at, name, Sort::Number, 2, b)
 }
 
-// Tests that values of these sorts may be the same.
+// Tests that values of these two sorts can be equal.
 fn test_compared(alloc: Global, at: &str, name: &str, a: Sort, b: Sort) -> Result<(), Fault> {
     match (a, b) {
         (Sort::Number, Sort::Truth) | (Sort::Truth, Sort::Number) => {
@@ -48,7 +48,7 @@ fn test_compared(alloc: Global, at: &str, name: &str, a: Sort, b: Sort) -> Resul
     }
 }
 
-// The sort of an operator's values, by those of its two terms.
+// Returns the sort of an operator's values, and tests the sorts of its two terms.
 fn sort_of_both(
     alloc: Global,
     at: &str,
@@ -73,7 +73,7 @@ fn sort_of_both(
     }
 }
 
-// Tests that the divisor, if the operator has one, stands there and is above 0.
+// Tests that the divisor of `:mod` is a constant integer above 0. Accepts every term if the operator is not `:mod`.
 fn test_divisor(alloc: Global, at: &str, operator: Operator, divisor: &Term) -> Result<(), Fault> {
     if !matches!(operator, Operator::Mod) {
         return Ok(());
@@ -86,7 +86,8 @@ fn test_divisor(alloc: Global, at: &str, operator: Operator, divisor: &Term) -> 
     Err(refused(format!(in alloc; "{at}: :mod is by an integer above 0 that stands there.")))
 }
 
-// The sort of a choice: that of both values, if they have one sort.
+// Returns the sort of a choice: the sort of its two values if they have the same one, and otherwise any. Tests that the condition is not a
+// number.
 fn sort_of_choice(
     alloc: Global,
     at: &str,
@@ -110,7 +111,7 @@ fn test_truths(alloc: Global, at: &str, name: &str, sorts: &[Sort]) -> Result<()
     Ok(())
 }
 
-/// The sort of a function's values, by its terms and their sorts.
+/// Returns the sort of a function's values, and tests its terms and their sorts.
 pub fn sort_of(
     alloc: Global,
     at: &str,

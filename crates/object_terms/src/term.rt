@@ -1,7 +1,7 @@
 //! Terms in a file.
 ghost use Rattle.std.specs.Prelude.{◌≡◌, ℤ, Some, List, [], ◌∷◌, map, IfOk, IfSome};
-ghost use Rattle.edn.specs.Value.{keyword};
-ghost use Rattle.edn.specs.View.{value_of as spelled};
+ghost use Rattle.edn_values.specs.Value.{keyword};
+ghost use Rattle.edn_values.specs.View.{value_of as spelled};
 ghost use Rattle.rules.specs.Meaning.{State, number_of, value_of};
 ghost use Rattle.object_terms.specs.Terms.{SpellsTerm, known_by, choice, all_of, any_of, function_named, applied};
 
@@ -17,16 +17,16 @@ use edn::Edn;
 use rules::{Operator, Term};
 use std::alloc::{AllocError, Global};
 
-/// The most words of the values of a case.
+/// The maximum number of words in the values of a case. Each element is a word, and so is each vector.
 pub const MOST_WORDS: usize = 256;
 
-/// The most vectors in one another in a value: as many collections as a text may have open.
+/// The maximum depth of nested vectors in a value, which is the maximum number of open collections of a text.
 pub const DEEPEST: u8 = 32;
 
-// The most values of `:and` and `:or`.
+// The maximum number of values of `:and` and `:or`.
 const MOST_TRUTHS: usize = 16;
 
-// The operator on two terms.
+// Returns the term that applies the operator to `a` and `b`.
 fn both(alloc: Global, operator: Operator, a: Term, b: Term) -> Result<Term, AllocError>
     ensures { IfOk result (λ term. (state : State) (given : List ℤ) → value_of term state given
         ≡ applied (Function.Both operator) (value_of a state given ∷ value_of b state given ∷ [])) }
@@ -36,7 +36,7 @@ fn both(alloc: Global, operator: Operator, a: Term, b: Term) -> Result<Term, All
     Ok(Term::Combined(operator, a, b))
 }
 
-// The second term if the value of the first is 1, and the third if it is 0.
+// Returns the term with the value of `a` if `condition` is 1, and that of `b` if `condition` is 0.
 fn chosen(alloc: Global, condition: Term, a: Term, b: Term) -> Result<Term, AllocError>
     ensures { IfOk result (λ term. (state : State) (given : List ℤ) → value_of term state given
         ≡ choice (value_of condition state given) (value_of a state given) (value_of b state given)) }
@@ -47,14 +47,14 @@ fn chosen(alloc: Global, condition: Term, a: Term, b: Term) -> Result<Term, Allo
     Ok(Term::If(condition, a, b))
 }
 
-// A truth as a term.
+// Returns a truth value as a term.
 fn truth(is_true: bool) -> Term
     ensures { (state : State) (given : List ℤ) → value_of result state given ≡ Some (number_of is_true) }
 {
     Term::Constant(Some(if is_true { 1 } else { 0 }))
 }
 
-// Whether all of the terms are true, from the left and no further than needed.
+// Returns the term that is true if all terms are true. It is computed from the left, and stops at the first false term.
 fn all_of(alloc: Global, mut terms: Vec<Term>) -> Result<Term, AllocError>
     ensures { IfOk result (λ term. (state : State) (given : List ℤ) → value_of term state given
         ≡ all_of (map (λ t. value_of t state given) terms.items)) }
@@ -66,7 +66,7 @@ fn all_of(alloc: Global, mut terms: Vec<Term>) -> Result<Term, AllocError>
     Ok(rest)
 }
 
-// Whether one of the terms is true, from the left and no further than needed.
+// Returns the term that is true if at least one term is true. It is computed from the left, and stops at the first true term.
 fn any_of(alloc: Global, mut terms: Vec<Term>) -> Result<Term, AllocError>
     ensures { IfOk result (λ term. (state : State) (given : List ℤ) → value_of term state given
         ≡ any_of (map (λ t. value_of t state given) terms.items)) }
@@ -78,7 +78,7 @@ fn any_of(alloc: Global, mut terms: Vec<Term>) -> Result<Term, AllocError>
     Ok(rest)
 }
 
-// The term of an operator on two terms.
+// Returns the term that applies the operator to two terms, or `None` if there are not two.
 fn both_of(
     alloc: Global,
     operator: Operator,
@@ -94,7 +94,7 @@ fn both_of(
     Ok(Some(both(alloc, operator, a, b)?))
 }
 
-// The term that says whether a term is false.
+// Returns the term that negates one term, or `None` if there is not one.
 fn not_of(alloc: Global, mut terms: Vec<Term>) -> Result<Option<Term>, AllocError>
     ensures { IfOk result (λ found. IfSome found (λ term. (state : State) (given : List ℤ)
         → value_of term state given
@@ -106,7 +106,7 @@ fn not_of(alloc: Global, mut terms: Vec<Term>) -> Result<Option<Term>, AllocErro
     Ok(Some(chosen(alloc, a, truth(false), truth(true))?))
 }
 
-// The term of a choice of two terms.
+// Returns the term that chooses between two terms by a condition, or `None` if there are not three terms.
 fn choice_of(alloc: Global, mut terms: Vec<Term>) -> Result<Option<Term>, AllocError>
     ensures { IfOk result (λ found. IfSome found (λ term. (state : State) (given : List ℤ)
         → value_of term state given
@@ -123,7 +123,7 @@ fn choice_of(alloc: Global, mut terms: Vec<Term>) -> Result<Option<Term>, AllocE
     Ok(Some(chosen(alloc, condition, a, b)?))
 }
 
-// The term of the function of these terms, if it is of so many.
+// Returns the term that applies the function to the terms, or `None` if the function does not take this number of terms.
 fn made(alloc: Global, function: Function, terms: Vec<Term>) -> Result<Option<Term>, AllocError>
     ensures { IfOk result (λ found. IfSome found (λ term. (state : State) (given : List ℤ)
         → value_of term state given
@@ -138,12 +138,12 @@ fn made(alloc: Global, function: Function, terms: Vec<Term>) -> Result<Option<Te
     }
 }
 
-// The fault of a case with too many words.
+// Returns the fault of a case with too many words.
 fn too_many_words(alloc: Global, at: &str) -> Fault {
     refused(format!(in alloc; "{at}: its values have more than {MOST_WORDS} words."))
 }
 
-// The fault of an element that is no value.
+// Returns the fault of an element that is not a value.
 fn no_value(alloc: Global, at: &str, element: &Edn) -> Result<Fault, AllocError> {
     let shown = shown(alloc, element)?;
     Ok(refused(format!(in alloc;
@@ -151,7 +151,7 @@ fn no_value(alloc: Global, at: &str, element: &Edn) -> Result<Fault, AllocError>
     )))
 }
 
-// Counts a word, if there is room for it.
+// Counts one more word. Returns false if there are too many.
 fn count_word(words: &mut usize) -> bool {
     if *words >= MOST_WORDS {
         return false;
@@ -160,7 +160,7 @@ fn count_word(words: &mut usize) -> bool {
     true
 }
 
-// The term of an element without elements in it, and the sort of its values.
+// Returns the term of an element that contains no elements, and the sort of its values.
 fn word_of(alloc: Global, scope: &Scope, at: &str, element: &Edn) -> Result<(Term, Sort), Fault>
     ensures { IfOk result (λ found. SpellsTerm (known_by scope.now) (spelled element.now) found.0) }
 {
@@ -173,7 +173,7 @@ fn word_of(alloc: Global, scope: &Scope, at: &str, element: &Edn) -> Result<(Ter
     }
 }
 
-// The fault of a vector that does not begin with the name of a function.
+// Returns the fault of a vector that does not begin with the name of a function.
 fn no_function(alloc: Global, at: &str, first: Option<&Edn>) -> Result<Fault, AllocError> {
     let Some(first) = first else {
         return Ok(refused(format!(in alloc;
@@ -193,7 +193,7 @@ fn no_function(alloc: Global, at: &str, first: Option<&Edn>) -> Result<Fault, Al
     )))
 }
 
-// The fault of another number of values than the function wants.
+// Returns the fault of a call with the wrong number of values.
 fn other_number(alloc: Global, at: &str, call: Call) -> Fault {
     let (name, many) = (call.name, call.values.len());
     let wanted = match call.function {
@@ -205,7 +205,7 @@ fn other_number(alloc: Global, at: &str, call: Call) -> Fault {
     refused(format!(in alloc; "{at}: :{name} is of {wanted} values, and has {many}."))
 }
 
-// A vector of the name of a function and its values.
+// A vector with the name of a function and its values.
 #[derive(Clone, Copy)]
 struct Call<'a> {
     name: &'a str,
@@ -213,7 +213,7 @@ struct Call<'a> {
     values: &'a [Edn],
 }
 
-// Whether the function is of so many values.
+// Returns whether the function takes `many` values.
 fn is_of(function: Function, many: usize) -> bool {
     match function {
         Function::Both(_) => many == 2,
@@ -223,7 +223,7 @@ fn is_of(function: Function, many: usize) -> bool {
     }
 }
 
-// The function and the values of a vector.
+// Returns the function and the values of a vector.
 fn call_of<'a>(alloc: Global, at: &str, members: &'a [Edn]) -> Result<Call<'a>, Fault>
     ensures { IfOk result (λ call. (first : Edn) × (members.now ≡ first ∷ call.values.now)
         × (spelled first ≡ keyword call.name.now) × (function_named call.name.now ≡ Some call.function)) }
@@ -250,7 +250,7 @@ fn call_of<'a>(alloc: Global, at: &str, members: &'a [Edn]) -> Result<Call<'a>, 
     }
 }
 
-// The term of the call, by those of its values, and the sort of its own values.
+// Returns the term of a call, and the sort of its values. `terms` and `sorts` are those of the values of the call.
 fn term_of_call(
     alloc: Global,
     at: &str,
@@ -268,7 +268,8 @@ fn term_of_call(
     }
 }
 
-/// The term that the element spells, and the sort of its values. Counts its words. Looks through at most `deep` vectors in one another.
+/// Returns the term that the element spells, and the sort of its values. Adds the number of its words to `words`. Accepts at most `deep` -
+/// 1 nested vectors.
 pub fn term_of(
     alloc: Global,
     scope: &Scope,
@@ -296,7 +297,7 @@ pub fn term_of(
     term_of_call(alloc, at, call, terms, sorts.as_slice())
 }
 
-/// Whether the term has a value in every state. It may have one all the same.
+/// Returns true only if the term has a value in every state. It may return false for such a term too.
 pub fn is_total(term: &Term) -> bool {
     match term {
         Term::Constant(_) | Term::Variable(_) | Term::Given(_) => true,

@@ -4,7 +4,13 @@
 #[cfg(test)]
 mod faults;
 #[cfg(test)]
+mod files;
+#[cfg(test)]
+mod names;
+#[cfg(test)]
 mod objects;
+#[cfg(test)]
+mod operations;
 #[cfg(test)]
 mod outcomes;
 #[cfg(test)]

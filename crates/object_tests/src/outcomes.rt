@@ -38,13 +38,13 @@ const COUNTER: Object = (
     ],
 );
 
-// A state whose first variable is this integer.
-fn holding(n: i64) -> State {
+/// A state whose first variable is this integer.
+pub fn holding(n: i64) -> State {
     [Some(n), None, None, None, None, None, None, None]
 }
 
-// The name of an operation, the integers given, and `n` before. Then `n` afterwards and what is found, if it takes place.
-type Row = (u8, &'static [i64], i64, Option<(i64, Found)>);
+/// The name of an operation, the integers given, and `n` before. Then `n` afterwards and what is found, if it takes place.
+pub type Row = (u8, &'static [i64], i64, Option<(i64, Found)>);
 
 const FREE: Found = Found::Exactly(Some(1));
 
@@ -79,8 +79,8 @@ fn goes(rules: &Rules, row: &Row) -> bool {
     rules.outcome(*name, given, &holding(*n)) == want
 }
 
-// The first row that does not go so: its place; or how many rows there are.
-fn first_wrong(rules: &Rules, rows: &[Row]) -> usize {
+/// The first row that does not go so: its place; or how many rows there are.
+pub fn first_wrong(rules: &Rules, rows: &[Row]) -> usize {
     for (place, row) in rows.iter().enumerate() {
         if !goes(rules, row) {
             return place;

@@ -1,6 +1,6 @@
-//! The texts in addition to standard output. The observer of a running program is an [`Observer`], which gets the progress and the reasons
-//! of refusals; [`OnStandardError`] prints them there. No contract speaks of it, but that each refusal that is printed has a hint, and
-//! nothing of it changes what a program reads, writes to standard output or ends with.
+//! The texts that the program prints in addition to standard output. An [`Observer`] gets the progress of a running program and the reasons
+//! of refusals; [`OnStandardError`] prints them on standard error. Contracts say only that each printed refusal has a hint. An observer
+//! does not change the program's reads, standard output or exit status.
 //!
 //! A call allocates only if its result can be `AllocError`, or a refusal because memory ran out.
 #![tactic(auto)]

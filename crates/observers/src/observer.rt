@@ -5,42 +5,46 @@ use linspec::Verdict;
 use monitor::Monitor;
 use std::io;
 
-/// Gets the progress of a run, and the reason of a refusal. No call gives anything back or is refused. The caller waits for it, and calls
-/// it for each line and each event, so it should cost little.
+/// Gets the progress of a run, and the reasons of refusals. No call returns anything or can be refused. The caller waits for each call, and
+/// calls for each line and each event, so a call should cost little.
 pub trait Observer {
-    /// So many further bytes of a recorded history were read; 0 at its end.
+    /// Is called when `bytes` further bytes of a recorded history were read, or with 0 at its end.
     fn read(&self, bytes: usize);
 
-    /// The file can't be opened or read, for this reason.
+    /// Is called when the file cannot be opened or read, with the reason.
     fn unread(&self, path: &str, reason: &io::Error);
 
-    /// So many events of a recorded history were taken.
+    /// Is called when `events` events of a recorded history were accepted.
     fn taken(&self, events: usize);
 
-    /// All events of a recorded history were taken, and `workers` workers judge them now.
+    /// Is called when all events of a recorded history were accepted, and `workers` workers begin to judge them.
     fn judges(&self, events: usize, workers: u32);
 
-    /// A further line of a script came.
+    /// Is called for each line of a script.
     fn line(&self);
 
-    /// The line spells an event.
+    /// Is called if the line spells an event.
     fn event(&self);
 
-    /// The line that came is refused; or the next event of a recorded history, or the whole of it.
+    /// Is called if the line is refused, or the next event of a recorded history, or the whole history.
     fn refused(&self, refusal: &Refusal);
 
-    /// These bytes of a recorded history are refused as a text.
+    /// Is called when the events that these further bytes of a recorded history spell were accepted.
+    fn passed(&self, bytes: &[u8]);
+
+    /// Is called if the bytes of a recorded history after those of [`passed`](Observer::passed) are refused as a text. A place in the
+    /// refusal is an index of `bytes`.
     fn refused_text(&self, bytes: &[u8], refusal: &Refusal);
 
-    /// The refusal of the line that came has closed the script, which is strict.
+    /// Is called if the refusal of the line has closed the script, which is strict.
     fn closed(&self);
 
-    /// The input was taken to its end, and this is the verdict.
+    /// Is called at the end of the input, with the verdict.
     fn judged(&self, monitor: &Monitor, verdict: &Verdict);
 
-    /// A run of clients has ended, and this is the verdict.
+    /// Is called at the end of a run of clients, with the verdict.
     fn ran(&self, monitor: &Monitor, verdict: &Verdict);
 
-    /// The program stops for this.
+    /// Is called when the program stops with this refusal.
     fn stopped(&self, refusal: &Refusal);
 }

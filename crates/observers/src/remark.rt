@@ -5,6 +5,9 @@ use kinds::{ModelKind, each_kind};
 use linspec::Verdict;
 use models::{Key, Name};
 use monitor::Monitor;
+use object_kinds::Objects;
+use object_names::built_in;
+use objects::OwnObject;
 use std::fmt;
 
 /// A remark in addition to a verdict.
@@ -12,14 +15,14 @@ use std::fmt;
 pub enum Remark {
     /// Nothing was judged.
     NoEvent,
-    /// The operation that shows it is none that the key's object has. Another kind may have all that the key saw.
+    /// The key's object does not have the operation at the verdict's index. Another kind may have all operations of the key.
     NoneOfTheKind {
         key: Key,
         kind: ModelKind,
-        name: Name,
+        name: &'static str,
         meant: Option<ModelKind>,
     },
-    /// The budget of the key was too small. Another kind of the same object may do with it.
+    /// The budget of the key was too small. Another kind of the same object may need only a smaller budget.
     Blown {
         key: Key,
         kind: ModelKind,
@@ -34,7 +37,20 @@ macro_rules! kinds_listed {
 
 const KINDS: [ModelKind; 11] = each_kind!(kinds_listed;);
 
-// Whether objects of this kind have operations of this name.
+// Returns whether the object has an operation of this name.
+fn has_rules(object: &OwnObject, name: Name) -> bool {
+    let number = match name {
+        Name::Own(number) => Some(number),
+        _ => built_in(name.text()),
+    };
+    object
+        .rules
+        .operations
+        .iter()
+        .any(|operation| Some(operation.name) == number)
+}
+
+// Returns whether objects of this kind have operations of this name.
 fn has_operation(kind: ModelKind, name: Name) -> bool {
     match kind {
         ModelKind::Register | ModelKind::WideRegister => {
@@ -49,14 +65,15 @@ fn has_operation(kind: ModelKind, name: Name) -> bool {
         | ModelKind::WideFifoQueue
         | ModelKind::WideUnorderedQueue => { matches!(name, Name::Enqueue | Name::Dequeue) }
         ModelKind::Set | ModelKind::WideSet => matches!(name, Name::Add | Name::Read),
+        ModelKind::Own(object) => has_rules(object, name),
     }
 }
 
-/// The remark on this verdict of the monitor, if any.
-pub fn remark_on(monitor: &Monitor, verdict: &Verdict) -> Option<Remark> {
+/// Returns the remark on this verdict of the monitor, if any. Operations may have the names that a file of `objects` gives.
+pub fn remark_on(monitor: &Monitor, objects: Objects, verdict: &Verdict) -> Option<Remark> {
     match verdict {
         Verdict::Legal => None,
-        Verdict::Illegal { key, index } => none_of_the_kind(monitor, *key, *index),
+        Verdict::Illegal { key, index } => none_of_the_kind(monitor, objects, *key, *index),
         Verdict::Unknown { key, .. } => {
             let kind = kind_of(monitor, *key)?;
             Some(Remark::Blown { key: *key, kind })
@@ -64,8 +81,16 @@ pub fn remark_on(monitor: &Monitor, verdict: &Verdict) -> Option<Remark> {
     }
 }
 
-// Says so if the event of this index is of an operation that the key's object does not have.
-fn none_of_the_kind(monitor: &Monitor, key: Key, index: u32) -> Option<Remark> {
+// Returns the text of the name, which may be one of the file of objects.
+fn text_of(objects: Objects, name: Name) -> &'static str {
+    match (objects.names, name) {
+        (Some(names), Name::Own(number)) => names.text(number).unwrap_or(""),
+        _ => name.text(),
+    }
+}
+
+// Returns a remark if the event at `index` is about an operation that the key's object does not have.
+fn none_of_the_kind(monitor: &Monitor, objects: Objects, key: Key, index: u32) -> Option<Remark> {
     let events = monitor.history().events();
     let Body::Op(op) = &events.get(index as usize)?.body else {
         return None;
@@ -77,7 +102,7 @@ fn none_of_the_kind(monitor: &Monitor, key: Key, index: u32) -> Option<Remark> {
     Some(Remark::NoneOfTheKind {
         key,
         kind,
-        name: op.name,
+        name: text_of(objects, op.name),
         meant: KINDS
             .iter()
             .copied()
@@ -85,7 +110,7 @@ fn none_of_the_kind(monitor: &Monitor, key: Key, index: u32) -> Option<Remark> {
     })
 }
 
-// The things that the budget of a key of this kind limits.
+// Returns the words for the things that the budget of a key of this kind counts.
 fn counted(kind: ModelKind) -> &'static str {
     match kind {
         ModelKind::WideRegister => "lean ends",
@@ -94,7 +119,7 @@ fn counted(kind: ModelKind) -> &'static str {
     }
 }
 
-// The wide kind of a plain kind's object, if there is one.
+// Returns the wide kind of a plain kind's object, if there is one.
 fn wide_kind(kind: ModelKind) -> Option<ModelKind> {
     match kind {
         ModelKind::Register => Some(ModelKind::WideRegister),
@@ -106,7 +131,7 @@ fn wide_kind(kind: ModelKind) -> Option<ModelKind> {
     }
 }
 
-// The kind by which the key is judged.
+// Returns the kind by which the key is judged.
 fn kind_of(monitor: &Monitor, key: Key) -> Option<ModelKind> {
     for i in 0..monitor.key_count() {
         let row = monitor.key_at(i);
@@ -117,7 +142,7 @@ fn kind_of(monitor: &Monitor, key: Key) -> Option<ModelKind> {
     None
 }
 
-// Whether objects of this kind have all operations of the key among the events.
+// Returns whether objects of this kind have all operations of the key in `events`.
 fn has_all(kind: ModelKind, events: &[Event], key: Key) -> bool {
     events.iter().all(|event| match &event.body {
         Body::Op(op) => op.key != key || has_operation(kind, op.name),
@@ -136,7 +161,6 @@ impl fmt::Display for Remark {
                 meant,
             } => {
                 let kind = kind.name();
-                let name = name.text();
                 write!(f, "key {key} is of the kind {kind}, which has no {name}")?;
                 match meant {
                     Some(meant) => {

@@ -1,3 +1,4 @@
 pub mod Lending
 pub mod Shares
 pub mod Slots
+pub mod Crossing

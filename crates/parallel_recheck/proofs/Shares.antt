@@ -1,5 +1,5 @@
 -- the lines of workers, one after the other and one worker after the other
-use Rattle.std.proofs.Common.{◌≡◌, ◌≢◌, ℕ, ◌+◌, ◌<◌, ◌≤◌, ◌%◌, ⊎_elim, List, [], ◌∷◌, ◌++◌, slice_get, Some, sym, ap, ◌∙◌, subst, arith}
+use Rattle.std.proofs.Common.{◌≡◌, ◌≢◌, ℕ, zero, suc, refl, length, ◌+◌, ◌<◌, ◌≤◌, ◌%◌, ⊎_elim, List, [], ◌∷◌, ◌++◌, slice_get, Some, sym, ap, ◌∙◌, subst, arith}
 use Rattle.std.specs.List.{All}
 use Rattle.std.proofs.lemmas.Bool.{cases_eq}
 use Rattle.std.proofs.lemmas.List.Elements.{All-push, All-append, All-weaker, All-contains, Contains-append_left, Contains-append_right, Contains-push}
@@ -7,6 +7,16 @@ use Rattle.linspec.proofs.Lists.{Contains-nil, Contains-cons_cases, Pairwise-app
 use Rattle.checkpoints.specs.KeyLineView.{KeyLineView}
 use Rattle.parallel_recheck.specs.declared.workers.Placed.{Placed}
 use Rattle.parallel_recheck.specs.Placed.{IsAmong, HasPlace, IsOfTheirs, AreApart, IsShare, IsOwn, IsOwnOrLater}
+
+-- the last element, and those before it
+pub get_here : {X : Type 0} (xs : List X) (x : X) → slice_get (xs ++ x ∷ []) (length xs) ≡ Some x
+get_here [] x = refl
+get_here (y ∷ xs) x = get_here xs x
+
+pub get_before : {X : Type 0} (xs ys : List X) (i : ℕ) (x : X) → slice_get xs i ≡ Some x → slice_get (xs ++ ys) i ≡ Some x
+get_before [] ys i x is = cc
+get_before (z ∷ xs) ys zero x is = is
+get_before (z ∷ xs) ys (suc i) x is = get_before xs ys i x is
 
 in_first : (xs ys : List Placed) (place : ℕ) → HasPlace xs place → HasPlace (xs ++ ys) place
 in_first xs ys place h = (h.0, Contains-append_left xs ys h.0 h.1, h.2)

@@ -5,11 +5,11 @@ use Rattle.events.specs.declared.event.Event.{Event}
 use Rattle.linspec.specs.KeyHistory.{KeyHistory}
 use Rattle.checkpoints.specs.KeyLineView.{KeyLineView, at_rest, count_on}
 
--- borrowed events, as they are
+-- borrowed events, as values
 abbrev pub borrowed : List (ℕ × Bor Event) → List (ℕ × Event)
 borrowed events = map (λ x. (x.0, x.1.now)) events
 
--- the judged part of one key
+-- the judged history of one key
 pub record PieceView : Type 0 where
   pub key : ℕ
   pub judged : KeyHistory
@@ -17,6 +17,6 @@ pub record PieceView : Type 0 where
 abbrev pub piece_of : ℕ → KeyHistory → PieceView
 piece_of key judged = record { key = key; judged = judged }
 
--- the line of a piece: its events by its kind and budget, each given once to the judge of the key
+-- the line of a piece: its events, judged by its kind and budget. The judge of the key gets each event once
 abbrev pub line_of : PieceView → KeyLineView
 line_of piece = at_rest piece.judged (count_on 0 (length piece.judged.events))

@@ -11,8 +11,8 @@ use models::Key;
 use std::alloc::{AllocError, Global};
 use std::marker::Model;
 
-/// The judged part of one key: its kind of object, its budget, and its events with their indices, in the order in which they came. The
-/// events are borrowed, so a piece of a long history takes 16 bytes an event.
+/// The events of one key to be judged. It has the key's kind of object, its budget, and its events with their indices, in the order in
+/// which they came. The events are borrowed, so a piece of a long history takes 16 bytes for each event.
 #[derive(Drop)]
 pub struct KeyEvents<'a> {
     key: Key,
@@ -22,10 +22,14 @@ pub struct KeyEvents<'a> {
 }
 
 impl<'a> Model for KeyEvents<'a> {
+    ghost use Rattle.std.specs.Coded.{codes};
+    ghost use Rattle.kinds.specs.contracts.model_kind.ModelKind as model_kind;
     ghost use Rattle.events.specs.ProcessRule.{IsHistory};
     ghost use Rattle.parallel_recheck.specs.Pieces.{PieceView, borrowed};
 
     ghost Value = { PieceView };
+
+    ghost coded = { Prim.hlevel (codes, model_kind.the_row.coded) };
 
     ghost view = { λ a. record {
       key = a.key;
@@ -36,7 +40,7 @@ impl<'a> Model for KeyEvents<'a> {
 }
 
 impl<'a> KeyEvents<'a> {
-    /// No events of this key, to be judged as an object of this kind, by this budget.
+    /// Returns a piece without events of `key`, to be judged as an object of this kind, by this budget.
     pub fn new(alloc: Global, key: Key, kind: ModelKind, budget: u32) -> Self
         ensures { result ≡ piece_of key (without_events kind budget) }
     {
@@ -48,8 +52,8 @@ impl<'a> KeyEvents<'a> {
         }
     }
 
-    /// Adds an event, which the process rule allows after those before it. Its index is its place in the whole history. It
-    /// takes constant time, but if memory grows.
+    /// Appends an event, which the process rule must allow after the events before it. `index` is its place in the whole history. Takes
+    /// constant time unless memory grows.
     ///
     /// # Errors
     /// `AllocError` if an allocation fails; the events are then as before.
@@ -63,14 +67,14 @@ impl<'a> KeyEvents<'a> {
         Ok(())
     }
 
-    /// The key.
+    /// Returns the key.
     pub fn key(&self) -> Key
         ensures { result ≡ self.now.key }
     {
         self.key
     }
 
-    /// The line of the key, which borrows each event in turn and keeps none. It costs a push for each.
+    /// Returns the line of the key. The line borrows one event after another and keeps none. Costs a push for each event.
     ///
     /// # Errors
     /// `AllocError` if an allocation fails.

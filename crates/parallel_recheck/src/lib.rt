@@ -1,7 +1,7 @@
-//! The lines of many keys, judged by several threads at once.
+//! Parallel judgement of the lines of many keys.
 //!
-//! A piece is the borrowed events of one key. Piece `i` goes to worker `i mod workers`; the calling thread is one of the workers, and joins
-//! the others. The lines are in the order of their pieces, so the result is the same for each number of workers.
+//! A piece has the borrowed events of one key. Worker `i mod workers` judges piece `i`. One worker runs in the calling thread, which joins the
+//! others. The lines have the order of their pieces, so the result is the same for each number of workers.
 //!
 //! A call allocates only if its result can be `AllocError`, or a refusal because memory ran out.
 #![tactic(auto)]

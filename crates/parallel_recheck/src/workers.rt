@@ -1,28 +1,29 @@
-//! Pieces of work, shared out among threads.
+//! Pieces of work, divided among threads.
 ghost use Rattle.std.specs.Prelude.{◌≡◌, ◌≢◌, ◌+◌, ◌<◌, ◌≤◌, ℕ, List, None, Some, All, length, map, replicate, slice_get, IfOk, OnOk};
-ghost use denote.Param.Send.{IsSync};
 ghost use Rattle.checkpoints.specs.KeyLineView.{KeyLineView};
 ghost use Rattle.parallel_recheck.specs.Pieces.{line_of};
-ghost use Rattle.parallel_recheck.specs.Placed.{IsAmong, HasPlace, IsShare, IsOwn, IsOwnOrLater, AreSlotsOf, IsFilled, AreFilled};
+ghost use Rattle.parallel_recheck.specs.Placed.{AreShares, IsAmong, HasPlace, IsShare, IsOwn, IsOwnOrLater, AreSlotsOf, IsFilled, AreFilled};
 
 use crate::key_events::KeyEvents;
 use checkpoints::KeyLine;
 use edn::Gate;
 use std::alloc::{AllocError, Global};
-use std::thread::{Threads, join};
+use std::thread;
+use std::thread::Threads;
 
-// A line, and the place of its piece.
+// A line, and the index of its piece.
 #[derive(Drop)]
 struct Placed {
     place: usize,
     line: KeyLine,
 }
 
-/// The lines of these pieces, in their order, made by 1 to 64 workers. Worker `i mod workers` makes the line of piece `i`. The last worker
-/// is the calling thread, and each other worker has a thread of its own. If a thread cannot be started, the calling thread does its work.
-/// The lines are the same for each number of workers. Each line costs what [`KeyEvents::line`] costs, and the workers run at the same time.
+/// Returns the lines of the pieces in order, made by 1 to 64 workers. Worker `i mod workers` makes the line of piece `i`. One worker runs
+/// in the calling thread, and each other worker in a thread of its own. If a thread cannot be started, the thread that tried to start it
+/// does the work. The lines are the same for each number of workers. Each line costs what [`KeyEvents::line`] costs, and the workers run at
+/// the same time.
 ///
-/// The gate is called at the begin and at the end of each piece, with the piece's place.
+/// The gate is called at the beginning and at the end of each piece, with the index of the piece.
 ///
 /// # Errors
 /// `AllocError` if an allocation fails, in any thread.
@@ -36,48 +37,53 @@ pub fn recheck<R: Threads + Sync, G: Gate + Sync>(
     requires workers { (1 ≤ workers) × (workers ≤ 64) }
     ensures lines { IfOk result (λ lines. lines.items ≡ map line_of pieces.now) }
 {
-    let placed = judged_from(rt, alloc, pieces, 0, workers as usize, gate)?;
+    let placed = judged(rt, alloc, pieces, workers as usize, gate)?;
     let mut empty = slots_for(alloc, pieces.len())?;
     let slots = empty.as_mut_slice();
     fill(slots, placed);
     in_order(alloc, slots)
 }
 
-// The lines of the workers from this one on. Each worker except the last one has a thread of its own, if one can be started. Else the
-// calling thread judges its pieces after its own.
-fn judged_from<R: Threads + Sync, G: Gate + Sync>(
+// Returns the lines of all workers, each of which has a thread if one can be started.
+fn judged<R: Threads + Sync, G: Gate + Sync>(
     rt: &R,
     alloc: Global,
     pieces: &[KeyEvents],
-    worker: usize,
     workers: usize,
     gate: &G,
 ) -> Result<Vec<Placed>, AllocError>
-    requires { worker < workers }
-    ensures { IfOk result (λ placed. IsShare (map line_of pieces.now) (IsOwnOrLater worker workers)
+    requires { (1 ≤ workers) × (workers ≤ 64) }
+    ensures { IfOk result (λ placed. IsShare (map line_of pieces.now) (IsOwnOrLater 0 workers)
         (length pieces.now) placed.items) }
 {
-    if worker + 1 == workers {
-        return judged_by(alloc, pieces, worker, workers, gate);
-    }
-    let mine = move || -> Result<Vec<Placed>, AllocError>
-        requires { IsSync G.row × (worker < workers) }
-        ensures { IfOk result (λ placed. IsShare (map line_of pieces.entry.now)
-            (IsOwn worker workers) (length pieces.entry.now) placed.items) }
+    let judge = move |worker: usize| -> Result<Vec<Placed>, AllocError>
+        requires { 0 < workers }
+        ensures { IfOk result (λ placed. IsShare (map line_of pieces.entry.now) (IsOwn worker workers)
+            (length pieces.entry.now) placed.items) }
     { judged_by(alloc, pieces, worker, workers, gate) };
-    let others = move || -> Result<Vec<Placed>, AllocError>
-        requires { IsSync R.row × IsSync G.row × (worker + 1 < workers) }
-        ensures { IfOk result (λ placed. IsShare (map line_of pieces.entry.now)
-            (IsOwnOrLater (worker + 1) workers) (length pieces.entry.now) placed.items) }
-    { judged_from(rt, alloc, pieces, worker + 1, workers, gate) };
-    let (first, rest) = join(rt, mine, others);
-    let mut all = first?;
-    let mut rest = rest?;
-    all.append(&mut rest)?;
-    Ok(all)
+    let shares = thread::map_indices(rt, alloc, workers, &judge)?;
+    joined(alloc, shares)
 }
 
-// The lines of one worker.
+// Returns the lines of the shares together. Share `i` has the lines of worker `i`.
+fn joined(
+    alloc: Global,
+    mut shares: Vec<Result<Vec<Placed>, AllocError>>,
+) -> Result<Vec<Placed>, AllocError>
+    requires { 1 ≤ length shares.items }
+    ensures { (lines : List KeyLineView) (count : ℕ) → AreShares lines count shares.items
+        → IfOk result (λ placed. IsShare lines (IsOwnOrLater 0 (length shares.items)) count placed.items) }
+{
+    let mut later = Vec::new(alloc);
+    while let Some(share) = shares.pop() {
+        let mut all = share?;
+        all.append(&mut later)?;
+        later = all;
+    }
+    Ok(later)
+}
+
+// Returns the lines of one worker.
 fn judged_by<G: Gate>(
     alloc: Global,
     pieces: &[KeyEvents],
@@ -96,7 +102,7 @@ fn judged_by<G: Gate>(
     Ok(placed)
 }
 
-// Judges the piece at a place if it is one of this worker's.
+// Judges the piece at index `place` if it belongs to this worker.
 fn judge_own<G: Gate>(
     placed: &mut Vec<Placed>,
     pieces: &[KeyEvents],
@@ -121,7 +127,7 @@ fn judge_own<G: Gate>(
     Ok(())
 }
 
-// The line of the piece at a place. The gate is called round it.
+// Returns the line of the piece at index `place`. Calls the gate before and after it.
 fn judged_at<G: Gate>(
     alloc: Global,
     pieces: &[KeyEvents],
@@ -138,7 +144,7 @@ fn judged_at<G: Gate>(
     line
 }
 
-// Empty slots.
+// Returns `count` empty slots.
 fn slots_for(alloc: Global, count: usize) -> Result<Vec<Option<KeyLine>>, AllocError>
     ensures { IfOk result (λ slots. slots.items ≡ replicate count None) }
 {
@@ -149,7 +155,7 @@ fn slots_for(alloc: Global, count: usize) -> Result<Vec<Option<KeyLine>>, AllocE
     Ok(slots)
 }
 
-// Puts each line into the slot of its place.
+// Puts each line into its slot.
 fn fill(slots: &mut [Option<KeyLine>], mut placed: Vec<Placed>)
     requires { All (λ p. p.place < length slots.old) placed.items }
     ensures slots { (lines : List KeyLineView) → AreSlotsOf lines slots.old
@@ -161,7 +167,7 @@ fn fill(slots: &mut [Option<KeyLine>], mut placed: Vec<Placed>)
     }
 }
 
-// Puts a line into the slot of its place.
+// Puts a line into its slot.
 fn put(slots: &mut [Option<KeyLine>], placed: Placed)
     requires { placed.place < length slots.old }
     ensures slots { (lines : List KeyLineView) → AreSlotsOf lines slots.old
@@ -174,7 +180,7 @@ fn put(slots: &mut [Option<KeyLine>], placed: Placed)
     slots[place] = Some(line);
 }
 
-// The lines of all slots, in order. The slots are then empty.
+// Returns the lines of all slots in order, and leaves the slots empty.
 fn in_order(alloc: Global, slots: &mut [Option<KeyLine>]) -> Result<Vec<KeyLine>, AllocError>
     requires { AreFilled slots.old }
     ensures { (lines : List KeyLineView) → AreSlotsOf lines slots.old
@@ -188,7 +194,7 @@ fn in_order(alloc: Global, slots: &mut [Option<KeyLine>]) -> Result<Vec<KeyLine>
     Ok(lines)
 }
 
-// Takes the line out of the slot of a place.
+// Takes the line out of the slot at index `place`.
 fn line_in(slots: &mut [Option<KeyLine>], place: usize) -> KeyLine
     requires { IsFilled slots.old place }
     ensures line { slice_get slots.old place ≡ Some (Some result) }

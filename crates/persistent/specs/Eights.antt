@@ -1,4 +1,4 @@
--- Invariant: lists of values that are the same for eight places
+-- Invariant: comparisons of lists of values at eight places
 use Rattle.std.specs.Prelude.{◌≡◌, ℕ, ◌+◌, get_or, List}
 
 -- the eight values from this place on are the same

@@ -1,4 +1,4 @@
--- Invariant: where the values of a row lie
+-- Invariant: the values of a row in each form
 use Rattle.std.specs.Prelude.{◌<◌, ◌≤◌, List, [], length}
 use Rattle.persistent.specs.declared.row.Form.{Form}
 use Rattle.persistent.specs.declared.row.Form.TheVariants.{Empty, InPlace, Listed, Shared}
@@ -11,7 +11,7 @@ lying (InPlace few) = few
 lying (Listed list) = list.items
 lying (Shared tree) = tree
 
--- a list has at most the limit, and a tree has more
+-- a list has at most the limit of values, and a tree has more
 abbrev pub IsFit : {T : Type 0} → Form T → Type 0
 IsFit Empty = Unit {0}
 IsFit (InPlace few) = length few ≤ FLAT

@@ -1,4 +1,4 @@
--- Invariant: each row of a fork has fewer integers than the fork
+-- Invariant: each part of a fork has fewer values than the fork
 use Rattle.std.specs.Prelude.{◌≤◌, max, length}
 use Rattle.std.specs.Arc.{arc_value}
 use Rattle.std.proofs.Common.{arith, length-append}

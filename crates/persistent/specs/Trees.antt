@@ -4,13 +4,13 @@ use Rattle.std.specs.Arc.{arc_value}
 use Rattle.persistent.specs.declared.tree.Node.{Node}
 use Rattle.persistent.specs.declared.tree.Node.TheVariants.{Empty, Leaf, Fork}
 
--- the values in a row
+-- the values of a node, in order
 abbrev pub values_of : {T : Type 0} → Node T → List T
 values_of Empty = []
 values_of (Leaf from few) = drop from (arc_value few).items
 values_of (Fork pair) = (arc_value pair).left ++ (arc_value pair).right
 
--- a leaf has the values from one place on; a fork has two rows, none of them empty, and knows how many integers they have, and the first
+-- a leaf has the values from one place on. A fork has two parts that are not empty, the number of all their values, and the first value
 abbrev pub IsWhole : {T : Type 0} → Node T → Type 0
 IsWhole Empty = Unit {0}
 IsWhole (Leaf from few) = from ≤ length (arc_value few).items

@@ -1,10 +1,11 @@
-//! Whether values are the same in the same order.
+//! Comparisons of lists of values.
 ghost use Rattle.std.specs.Prelude.{◌≡◌, ◌↔◌, ◌+◌, ◌<◌, ◌≤◌, IsTrue, get_or, length};
 ghost use Rattle.persistent.specs.Eights.{AreSameAt};
 
 use crate::placed::Placed;
 
-// Whether a and b have the same values at both places. Both places are compared, also if the first ones differ.
+// Returns whether `xs` and `ys` have the same values at places `first` and `second`. Compares both places, even if the values at `first`
+// differ.
 #[inline(always)]
 fn two_are_same<T: Placed>(xs: &[T], ys: &[T], first: usize, second: usize) -> bool
     requires first_of_xs { first < length xs.now }
@@ -17,8 +18,8 @@ fn two_are_same<T: Placed>(xs: &[T], ys: &[T], first: usize, second: usize) -> b
     xs[first].is_same(&ys[first]) & xs[second].is_same(&ys[second])
 }
 
-// Whether the eight values from this place on are the same. All eight are compared, also if some differ: that takes a processor fewer
-// steps than a test after each value.
+// Returns whether the eight values from place `at` on are the same. Compares all eight values, even if some differ: this takes fewer
+// processor steps than a test after each value.
 fn eight_are_same<T: Placed>(xs: &[T], ys: &[T], at: usize) -> bool
     requires xs { at + 8 ≤ length xs.now }
     requires ys { at + 8 ≤ length ys.now }
@@ -31,7 +32,7 @@ fn eight_are_same<T: Placed>(xs: &[T], ys: &[T], at: usize) -> bool
     first & second & third & fourth
 }
 
-// Whether two short lists of the same length have the same values in the same order.
+// Returns whether two short lists of the same length have the same values in the same order.
 fn few_are_same<T: Placed>(xs: &[T], ys: &[T]) -> bool
     requires { length xs.now ≡ length ys.now }
     ensures { IsTrue result ↔ (xs.now ≡ ys.now) }
@@ -44,7 +45,7 @@ fn few_are_same<T: Placed>(xs: &[T], ys: &[T]) -> bool
     true
 }
 
-/// Whether the values are the same in the same order.
+/// Returns whether `xs` and `ys` have the same values in the same order.
 pub fn are_same<T: Placed>(xs: &[T], ys: &[T]) -> bool
     ensures { IsTrue result ↔ (xs.now ≡ ys.now) }
 {

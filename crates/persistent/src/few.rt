@@ -1,4 +1,4 @@
-//! A few values in place, without memory of their own.
+//! A few values in place, without allocated memory.
 ghost use Rattle.std.specs.Prelude.{◌≡◌, ◌+◌, ◌<◌, ◌≤◌, ◌∷◌, ◌++◌, [], IfSome, drop, length, take};
 
 use std::marker::Model;
@@ -6,7 +6,7 @@ use std::marker::Model;
 /// The greatest number of values that are stored in place.
 pub const IN_PLACE: usize = 6;
 
-/// Values in place: `len` values from place `from` on. The values before and behind them mean nothing.
+/// Values in place: the `len` values from place `from` on. Values at other places have no meaning.
 #[derive(Drop)]
 pub struct Few<T: Copy> {
     places: [T; IN_PLACE],
@@ -25,7 +25,7 @@ impl<T: Copy> Model for Few<T> {
     ghost invariant = { λ a. a.from + a.len ≤ IN_PLACE };
 }
 
-// Puts these values behind the first ones.
+// Copies `values` into `places`, from place `at` on.
 #[inline(always)]
 fn put<T: Copy>(places: &mut [T; IN_PLACE], at: usize, values: &[T])
     requires { at + length values.now ≤ IN_PLACE }
@@ -37,7 +37,7 @@ fn put<T: Copy>(places: &mut [T; IN_PLACE], at: usize, values: &[T])
 }
 
 impl<T: Copy> Few<T> {
-    /// The values of both parts, one part behind the other, with one value between them.
+    /// Returns the values of `first`, then `value`, then the values of `second`.
     #[inline(always)]
     pub fn around(first: &[T], value: T, second: &[T]) -> Few<T>
         requires { length first.now + length second.now < IN_PLACE }
@@ -54,7 +54,7 @@ impl<T: Copy> Few<T> {
         }
     }
 
-    /// The values of both parts, one part behind the other. Unused places get `blank`.
+    /// Returns the values of `first`, then the values of `second`. Unused places get `blank`.
     #[inline(always)]
     pub fn of(blank: T, first: &[T], second: &[T]) -> Few<T>
         requires { length first.now + length second.now ≤ IN_PLACE }
@@ -70,7 +70,7 @@ impl<T: Copy> Few<T> {
         }
     }
 
-    /// The same values.
+    /// Returns a copy of the values.
     #[inline(always)]
     pub fn copy(&self) -> Few<T>
         ensures { result ≡ self.now }
@@ -82,7 +82,7 @@ impl<T: Copy> Few<T> {
         }
     }
 
-    /// The values without the first one.
+    /// Returns the values without the first one.
     #[inline(always)]
     pub fn without_first(&self) -> Few<T>
         requires { 0 < length self.now }
@@ -95,7 +95,7 @@ impl<T: Copy> Few<T> {
         }
     }
 
-    /// The values with one more behind them, or `None` if all places are used.
+    /// Returns the values with `value` added at the end, or `None` if all places are used.
     #[inline(always)]
     pub fn with_last(&self, value: T) -> Option<Few<T>>
         ensures with { IfSome result (λ more. more ≡ self.now ++ value ∷ []) }
@@ -114,7 +114,7 @@ impl<T: Copy> Few<T> {
         })
     }
 
-    /// The values.
+    /// Returns the values.
     #[inline(always)]
     pub fn as_slice(&self) -> &[T]
         ensures is { result.now ≡ self.now }

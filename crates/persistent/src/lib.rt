@@ -1,10 +1,11 @@
-//! Rows of values that share what they have in common.
+//! Rows of values. Rows that were made from one another share memory.
 //!
-//! A row has one of three forms, by the number of its values. Up to 6 values are stored in place, and take no memory. Up to 128 are stored
-//! in a list of the row's own, which each change and each copy makes again: copying these few takes less time than sharing them. More
-//! values are stored in a tree, which is balanced by the heights of its parts. A fork has two trees. A leaf has a list of at most 64
-//! values, which copies share, and the place of its first value in that list. A change makes one leaf and the forks above it again, and
-//! shares all else, so it costs O(log n). A copy takes constant time and no memory. No clause speaks of forms, heights or lengths.
+//! A row has one of three forms, which depends on the number of its values. Up to 6 values are stored in place, without allocated memory.
+//! Up to 128 values are stored in a list of the row's own. Each change and each copy makes a new list, since copying these few values is
+//! faster than sharing them. More values are stored in a tree, which is balanced by the heights of its parts. A fork has two trees. A leaf
+//! has a list, which copies share, and the place of its first value in that list. If a leaf has 44 values or more, an insertion into it
+//! makes two leaves. A change makes one or two new leaves and new forks above them, and shares the rest, so it costs O(log n). A copy of a
+//! tree takes constant time and no memory. No clause mentions forms, heights or the sizes of leaves.
 //!
 //! A call allocates only if its result can be `AllocError`, or a refusal because memory ran out.
 #![tactic(auto)]

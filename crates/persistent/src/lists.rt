@@ -1,9 +1,9 @@
-//! Lists of values with memory of their own.
+//! Lists of values in allocated memory.
 ghost use Rattle.std.specs.Prelude.{◌≡◌, IfOk, ◌∷◌, ◌++◌};
 
 use std::alloc::{AllocError, Global};
 
-/// The values of both parts, one part behind the other.
+/// Returns the values of `first`, then the values of `second`.
 pub fn list_of<T: Copy>(alloc: Global, first: &[T], second: &[T]) -> Result<Vec<T>, AllocError>
     ensures { IfOk result (λ list. list.items ≡ first.now ++ second.now) }
 {
@@ -13,7 +13,7 @@ pub fn list_of<T: Copy>(alloc: Global, first: &[T], second: &[T]) -> Result<Vec<
     Ok(list)
 }
 
-/// The same, with one value between both parts.
+/// Returns the values of `first`, then `value`, then the values of `second`.
 pub fn list_around<T: Copy>(
     alloc: Global,
     first: &[T],

@@ -1,20 +1,20 @@
-//! The elements of rows.
+//! A trait for the elements of rows.
 ghost use Rattle.std.specs.Prelude.{◌≡◌, ◌↔◌, IsTrue, ℤ};
 
-/// An element of a row. It has a place among the integers, and a row with ascending places is searched by place.
+/// An element of a row. It has an integer as its place. If the places in a row ascend, the row can be searched by place.
 pub trait Placed: Copy {
     ghost place: { Self → ℤ };
 
-    /// The value's place. Takes constant time.
+    /// Returns the value's place. Takes constant time.
     fn place(&self) -> i64
         ensures { result ≡ place self.now };
 
-    /// Whether both are one value. Takes constant time.
+    /// Returns whether both elements are the same value. Takes constant time.
     fn is_same(&self, other: &Self) -> bool
         ensures { IsTrue result ↔ (self.now ≡ other.now) };
 }
 
-/// An integer is its own place.
+/// The place of an integer is the integer itself.
 impl Placed for i64 {
     ghost place = { λ value. value };
 

@@ -1,4 +1,4 @@
-//! Values in a row: a few in place, some more in a list, and many in a tree whose parts are shared.
+//! Values in a row: a few in place, more in a list, and many in a tree whose parts are shared.
 ghost use Rattle.std.specs.Prelude.{◌≡◌, ◌↔◌, ◌+◌, ◌<◌, ◌≤◌, ℕ, IfOk, IsTrue};
 ghost use Rattle.std.specs.Prelude.{[], ◌∷◌, ◌++◌, get_or, length, take, drop, ◌<ℤ◌, ◌≤ℤ◌};
 ghost use Rattle.std.specs.List.{insert, remove};
@@ -12,11 +12,11 @@ use crate::tree::{Tree, leaf_of, place_in};
 use std::alloc::{AllocError, Global};
 use std::marker::Model;
 
-/// A row with more values than this is a tree.
+/// The maximum number of values of a row that is not a tree.
 pub const FLAT: usize = 128;
 
-/// Values in a row, each at its place. A change returns another row. Up to 128 values are copied. If there are more, the other row
-/// shares all except the path to the changed place, which has O(log n) parts, and a copy shares all.
+/// Values in a row, by index. A change returns another row. A row of up to 128 values is copied. With more values, the new row shares
+/// everything except the path to the changed index, which has O(log n) nodes, and a copy shares everything.
 #[derive(Drop)]
 pub struct Row<T: Copy> {
     form: Form<T>,
@@ -31,7 +31,7 @@ enum Form<T: Copy> {
     Shared(Tree<T>),
 }
 
-// The values, as they are looked at.
+// A borrowed view of the values in each form.
 #[derive(Clone, Copy, Drop)]
 enum Shown<'a, T: Copy> {
     Piece(&'a [T]),
@@ -49,7 +49,7 @@ impl<T: Copy> Model for Row<T> {
     ghost invariant = { λ a. IsFit a.form };
 }
 
-// The row of this list.
+// Returns the row of the values in `list`.
 fn row_of_list<T: Copy>(alloc: Global, list: Vec<T>) -> Result<Row<T>, AllocError>
     ensures { IfOk result (λ row. row ≡ list.items) }
 {
@@ -64,7 +64,7 @@ fn row_of_list<T: Copy>(alloc: Global, list: Vec<T>) -> Result<Row<T>, AllocErro
     })
 }
 
-// The row of both parts, one behind the other. Unused places get `blank`.
+// Returns the row of the values of `first`, then those of `second`. Unused places get `blank`.
 fn row_of<T: Copy>(alloc: Global, blank: T, first: &[T], second: &[T]) -> Result<Row<T>, AllocError>
     ensures { IfOk result (λ row. row ≡ first.now ++ second.now) }
 {
@@ -76,7 +76,7 @@ fn row_of<T: Copy>(alloc: Global, blank: T, first: &[T], second: &[T]) -> Result
     row_of_list(alloc, list_of(alloc, first, second)?)
 }
 
-// The same, with one value between both parts.
+// Returns the row of the values of `first`, then `value`, then the values of `second`.
 fn row_around<T: Copy>(
     alloc: Global,
     first: &[T],
@@ -93,7 +93,7 @@ fn row_around<T: Copy>(
     row_of_list(alloc, list_around(alloc, first, value, second)?)
 }
 
-// The row of these values without the one at this place.
+// Returns the row of `values` without the value at index `at`.
 fn row_without<T: Copy>(alloc: Global, values: &[T], at: usize) -> Result<Row<T>, AllocError>
     requires { at < length values.now }
     ensures { IfOk result (λ row. row ≡ remove values.now at) }
@@ -101,7 +101,7 @@ fn row_without<T: Copy>(alloc: Global, values: &[T], at: usize) -> Result<Row<T>
     row_of(alloc, values[at], &values[..at], &values[at + 1..])
 }
 
-// The row of this tree.
+// Returns the row of the values in `tree`.
 fn row_of_tree<T: Copy>(alloc: Global, tree: Tree<T>) -> Result<Row<T>, AllocError>
     ensures { IfOk result (λ row. row ≡ tree) }
 {
@@ -116,14 +116,14 @@ fn row_of_tree<T: Copy>(alloc: Global, tree: Tree<T>) -> Result<Row<T>, AllocErr
 }
 
 impl<T: Copy> Row<T> {
-    /// No values.
+    /// Returns an empty row.
     pub fn new() -> Row<T>
         ensures { result ≡ [] }
     {
         Row { form: Form::Empty }
     }
 
-    // The values, as they are looked at.
+    // Returns a borrowed view of the values.
     #[inline(always)]
     fn shown(&self) -> Shown<'_, T>
         ensures is { IsShown self.now result }
@@ -136,7 +136,7 @@ impl<T: Copy> Row<T> {
         }
     }
 
-    /// The number of values. Takes constant time.
+    /// Returns the number of values. Takes constant time.
     pub fn len(&self) -> usize
         ensures { result ≡ length self.now }
     {
@@ -146,7 +146,7 @@ impl<T: Copy> Row<T> {
         }
     }
 
-    /// The first value. Takes constant time.
+    /// Returns the first value. Takes constant time.
     pub fn first(&self) -> T
         requires { 0 < length self.now }
         ensures { (d : T) → result ≡ get_or self.now 0 d }
@@ -157,8 +157,8 @@ impl<T: Copy> Row<T> {
         }
     }
 
-    /// A row of the same values. Costs time and memory in O(values) up to 128 values, and else constant time and no memory. `AllocError`
-    /// if there is no memory, or if as many rows share the values as can be counted.
+    /// Returns a row of the same values. Up to 128 values it costs O(values) time and memory, and above that constant time and no memory.
+    /// `AllocError` if an allocation fails, or if the number of rows that share the values cannot grow any more.
     pub fn copy(&self) -> Result<Row<T>, AllocError>
         ensures { IfOk result (λ row. row ≡ self.now) }
     {
@@ -173,7 +173,7 @@ impl<T: Copy> Row<T> {
         Ok(Row { form })
     }
 
-    /// The values with `value` inserted at place `at`. Costs time and memory in O(values) up to 128 values, and else in O(log n).
+    /// Returns the values with `value` inserted at index `at`. Costs O(values) time and memory up to 128 values, and O(log n) above that.
     pub fn with(&self, alloc: Global, at: usize, value: T) -> Result<Row<T>, AllocError>
         requires { at ≤ length self.now }
         ensures { IfOk result (λ row. row ≡ insert self.now at value) }
@@ -193,7 +193,7 @@ impl<T: Copy> Row<T> {
         }
     }
 
-    /// The values without the one at place `at`. Costs time and memory in O(values) up to 128 values, and else in O(log n).
+    /// Returns the values without the one at index `at`. Costs O(values) time and memory up to 128 values, and O(log n) above that.
     pub fn without(&self, alloc: Global, at: usize) -> Result<Row<T>, AllocError>
         requires { at < length self.now }
         ensures { IfOk result (λ row. row ≡ remove self.now at) }
@@ -211,8 +211,8 @@ impl<T: Copy> Row<T> {
         }
     }
 
-    /// Replaces the values in from..to (at most two) by `value`. Costs time and memory in O(values) up to 128 values, and else in
-    /// O(log n).
+    /// Returns the values with those in `from..to` (at most two) replaced by `value`. Costs O(values) time and memory up to 128 values, and
+    /// O(log n) above that.
     pub fn spliced(
         &self,
         alloc: Global,
@@ -231,7 +231,7 @@ impl<T: Copy> Row<T> {
         }
     }
 
-    /// The values from place `at` on that are stored in one piece of memory. Costs O(log n).
+    /// Returns the values from index `at` on that are stored contiguously. Costs O(log n).
     pub fn part_at(&self, at: usize) -> &[T]
         requires { at < length self.now }
         ensures some { 0 < length result.now }
@@ -244,7 +244,7 @@ impl<T: Copy> Row<T> {
         }
     }
 
-    /// The value at this place. Costs O(log n).
+    /// Returns the value at index `at`. Costs O(log n).
     pub fn get(&self, at: usize) -> T
         requires { at < length self.now }
         ensures { (d : T) → result ≡ get_or self.now at d }
@@ -257,8 +257,8 @@ impl<T: Copy> Row<T> {
 }
 
 impl<T: Placed> Row<T> {
-    /// A place that splits the row: the element before it, if any, has a place below `value`, and the element at it, if any, has not. A row
-    /// that never falls has exactly one such place. Costs O(log n).
+    /// Returns an index that splits the row by place. The element before this index, if any, has a place below `value`. The element at this
+    /// index, if any, has a place of at least `value`. A row of ascending places has exactly one such index. Costs O(log n).
     pub fn place_of(&self, value: i64) -> usize
         ensures within { result ≤ length self.now }
         ensures before { (k : ℕ) (d : T) → result ≡ k + 1 → T.place (get_or self.now k d) <ℤ value }
@@ -270,7 +270,7 @@ impl<T: Placed> Row<T> {
         }
     }
 
-    /// Whether both have the same values in the same order.
+    /// Returns whether both rows have the same values in the same order.
     pub fn same(&self, other: &Row<T>) -> bool
         ensures { IsTrue result ↔ (self.now ≡ other.now) }
     {

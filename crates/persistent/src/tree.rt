@@ -1,4 +1,4 @@
-//! Values in a row, as a tree whose parts are shared.
+//! Values in a row, stored as a tree whose parts are shared.
 ghost use Rattle.std.specs.Prelude.{◌≡◌, ◌↔◌, ◌+◌, ◌<◌, ◌≤◌, ℕ, ℤ, IfOk, OnOk, IsTrue};
 ghost use Rattle.std.specs.Prelude.{[], ◌∷◌, ◌++◌, ◌-◌, get_or, length, take, drop, ◌<ℤ◌, ◌≤ℤ◌};
 ghost use Rattle.std.specs.List.{insert, remove};
@@ -10,18 +10,18 @@ use std::alloc::{AllocError, Global};
 use std::marker::Model;
 use std::sync::Arc;
 
-// The greatest number of values in one piece of memory that a change made.
-const MOST: usize = 64;
+// The number of values from which on an insertion makes two leaves of one.
+const MOST: usize = 44;
 
-/// Many values in a row, each at its place. A change returns another tree, which shares with this one all except the path to the changed
-/// place, which has O(log n) nodes. A copy shares all.
+/// Many values in a row, by index. A change returns another tree, which shares everything with this one except the path to the changed
+/// index, which has O(log n) nodes. A copy shares everything.
 #[cycle(tree)]
 #[derive(Drop)]
 pub struct Tree<T: Copy> {
     node: Node<T>,
 }
 
-// A leaf has a list and the place of its first value in that list.
+// A node of a tree. A leaf has a list and the place of its first value in that list.
 #[cycle(tree)]
 #[derive(Drop)]
 enum Node<T: Copy> {
@@ -30,7 +30,8 @@ enum Node<T: Copy> {
     Fork(Arc<Pair<T>>),
 }
 
-// Two rows, one behind the other, with the number of values of both, their first value, and the number of forks above the deepest leaf.
+// Two rows, the right one after the left one. With them it has the number of their values, their first value, and the number of forks above
+// the deepest leaf.
 #[cycle(tree)]
 #[derive(Drop)]
 struct Pair<T: Copy> {
@@ -59,7 +60,8 @@ impl<T: Copy> Model for Tree<T> {
     ghost size_decreases = { λ a h. depth_le-length _ a.node h };
 }
 
-/// A place that splits the values: the element before it, if any, has a place below `value`, and the element at it, if any, has not.
+/// Returns an index that splits `values` by place. The element before this index, if any, has a place below `value`. The element at this
+/// index, if any, has a place of at least `value`.
 pub fn place_in<T: Placed>(values: &[T], value: i64) -> usize
     ensures within { result ≤ length values.now }
     ensures before { (k : ℕ) (d : T) → result ≡ k + 1 → T.place (get_or values.now k d) <ℤ value }
@@ -78,7 +80,7 @@ pub fn place_in<T: Placed>(values: &[T], value: i64) -> usize
     from
 }
 
-/// The row of these values.
+/// Returns the tree of the values in `few`.
 pub fn leaf_of<T: Copy>(alloc: Global, few: Vec<T>) -> Result<Tree<T>, AllocError>
     ensures { IfOk result (λ tree. tree ≡ few.items) }
 {
@@ -88,14 +90,14 @@ pub fn leaf_of<T: Copy>(alloc: Global, few: Vec<T>) -> Result<Tree<T>, AllocErro
     })
 }
 
-// The row of these values, one part behind the other, with memory of its own.
+// Returns the tree of the values of `first`, then those of `second`, as one new leaf.
 fn leaf<T: Copy>(alloc: Global, first: &[T], second: &[T]) -> Result<Tree<T>, AllocError>
     ensures { IfOk result (λ tree. tree ≡ first.now ++ second.now) }
 {
     leaf_of(alloc, list_of(alloc, first, second)?)
 }
 
-// The same, with one value between both parts.
+// Returns the tree of the values of `first`, then `value`, then those of `second`, as one new leaf.
 fn leaf_around<T: Copy>(
     alloc: Global,
     first: &[T],
@@ -107,7 +109,7 @@ fn leaf_around<T: Copy>(
     leaf_of(alloc, list_around(alloc, first, value, second)?)
 }
 
-// The row of these values with one more at this place.
+// Returns the tree of `values` with `value` inserted at index `at`, as one new leaf.
 fn leaf_with<T: Copy>(
     alloc: Global,
     values: &[T],
@@ -120,7 +122,7 @@ fn leaf_with<T: Copy>(
     leaf_around(alloc, &values[..at], value, &values[at..])
 }
 
-// The row of these values without the one at this place.
+// Returns the tree of `values` without the value at index `at`.
 fn leaf_without<T: Copy>(alloc: Global, values: &[T], at: usize) -> Result<Tree<T>, AllocError>
     requires { at < length values.now }
     ensures { IfOk result (λ tree. tree ≡ remove values.now at) }
@@ -128,7 +130,7 @@ fn leaf_without<T: Copy>(alloc: Global, values: &[T], at: usize) -> Result<Tree<
     leaf(alloc, &values[..at], &values[at + 1..])
 }
 
-// The row of these values with one in place of the one at this place.
+// Returns the tree of `values` with the value at index `at` replaced by `value`.
 fn leaf_replaced<T: Copy>(
     alloc: Global,
     values: &[T],
@@ -141,7 +143,7 @@ fn leaf_replaced<T: Copy>(
     leaf_around(alloc, &values[..at], value, &values[at + 1..])
 }
 
-// The values from this place on.
+// Returns the values from index `from` on.
 fn behind<T: Copy>(few: &Vec<T>, from: u32) -> &[T]
     requires { from ≤ length few.now.items }
     ensures { result.now ≡ drop from few.now.items }
@@ -149,7 +151,7 @@ fn behind<T: Copy>(few: &Vec<T>, from: u32) -> &[T]
     &few.as_slice()[from as usize..]
 }
 
-// The two rows, one behind the other. None of them is empty.
+// Returns a fork of `left` and `right`, which are not empty.
 fn fork<T: Copy>(alloc: Global, left: Tree<T>, right: Tree<T>) -> Result<Tree<T>, AllocError>
     requires left { 0 < length left }
     requires right { 0 < length right }
@@ -175,7 +177,7 @@ fn fork<T: Copy>(alloc: Global, left: Tree<T>, right: Tree<T>) -> Result<Tree<T>
     })
 }
 
-// The same, with a copy of the left one.
+// Returns a fork of a copy of `left`, and of `right`.
 #[inline(always)]
 fn fork_with_left<T: Copy>(
     alloc: Global,
@@ -189,7 +191,7 @@ fn fork_with_left<T: Copy>(
     fork(alloc, left.copy()?, right)
 }
 
-// The same, with a copy of the right one.
+// Returns a fork of `left`, and of a copy of `right`.
 #[inline(always)]
 fn fork_with_right<T: Copy>(
     alloc: Global,
@@ -203,7 +205,8 @@ fn fork_with_right<T: Copy>(
     fork(alloc, left, right.copy()?)
 }
 
-// The row of these values with one more at this place, which is not behind the half, as two leaves, one with each half.
+// Returns the tree of `values` with `value` inserted at index `at`, which is at most `half`. The tree is a fork of two new leaves, which
+// are divided at `half`.
 fn parted_in_front<T: Copy>(
     alloc: Global,
     values: &[T],
@@ -219,7 +222,8 @@ fn parted_in_front<T: Copy>(
     fork(alloc, left, leaf(alloc, &values[half..], &[])?)
 }
 
-// The same, if the place is behind the half.
+// Returns the tree of `values` with `value` inserted at index `at`, which is at least `half`. The tree is a fork of two new leaves, which
+// are divided at `half`.
 fn parted_behind<T: Copy>(
     alloc: Global,
     values: &[T],
@@ -236,7 +240,8 @@ fn parted_behind<T: Copy>(
     fork(alloc, leaf(alloc, &values[..half], &[])?, right)
 }
 
-// The row of these values with one more at this place, which is not the end, as two leaves, each with half of them.
+// Returns the tree of `values` with `value` inserted at index `at`, which is not the end. The tree is a fork of two new leaves, each with
+// half of the values.
 fn parted<T: Copy>(alloc: Global, values: &[T], at: usize, value: T) -> Result<Tree<T>, AllocError>
     requires { at < length values.now }
     ensures { IfOk result (λ tree. tree ≡ insert values.now at value) }
@@ -248,7 +253,7 @@ fn parted<T: Copy>(alloc: Global, values: &[T], at: usize, value: T) -> Result<T
     parted_behind(alloc, values, half, at, value)
 }
 
-// The four rows, one behind the other, as a fork of two forks.
+// Returns the four rows in order, as a fork of two forks.
 fn fork_of_forks<T: Copy>(
     alloc: Global,
     left: Tree<T>,
@@ -267,7 +272,7 @@ fn fork_of_forks<T: Copy>(
     fork(alloc, left, right)
 }
 
-// The three rows, one behind the other. The one in the middle is divided, if it has two halves.
+// Returns the three rows in order. If `middle` is a fork, its two parts go to different sides.
 fn fork_around<T: Copy>(
     alloc: Global,
     left: Tree<T>,
@@ -286,7 +291,7 @@ fn fork_around<T: Copy>(
     fork(alloc, left, right)
 }
 
-// The three rows, one behind the other. The two on the left are those of a fork that is too high for a fork with the right one.
+// Returns the three rows in order. `outer` and `inner` are the parts of a fork that is too high for a fork with `right`.
 fn lean_left_apart<T: Copy>(
     alloc: Global,
     outer: &Tree<T>,
@@ -306,7 +311,7 @@ fn lean_left_apart<T: Copy>(
     fork(alloc, outer, fork_with_left(alloc, inner, right)?)
 }
 
-// The two rows, if the left one is too high for a fork of both.
+// Returns `left`, then `right`, if `left` is too high for a fork of both.
 fn lean_left<T: Copy>(alloc: Global, left: &Tree<T>, right: Tree<T>) -> Result<Tree<T>, AllocError>
     requires left { 0 < length left.now }
     requires right { 0 < length right }
@@ -318,7 +323,7 @@ fn lean_left<T: Copy>(alloc: Global, left: &Tree<T>, right: Tree<T>) -> Result<T
     fork_with_left(alloc, left, right)
 }
 
-// The three rows, one behind the other. The two on the right are those of a fork that is too high for a fork with the left one.
+// Returns the three rows in order. `inner` and `outer` are the parts of a fork that is too high for a fork with `left`.
 fn lean_right_apart<T: Copy>(
     alloc: Global,
     left: Tree<T>,
@@ -338,7 +343,7 @@ fn lean_right_apart<T: Copy>(
     fork(alloc, fork_with_right(alloc, left, inner)?, outer)
 }
 
-// The two rows, if the right one is too high for a fork of both.
+// Returns `left`, then `right`, if `right` is too high for a fork of both.
 fn lean_right<T: Copy>(alloc: Global, left: Tree<T>, right: &Tree<T>) -> Result<Tree<T>, AllocError>
     requires left { 0 < length left }
     requires right { 0 < length right.now }
@@ -350,7 +355,7 @@ fn lean_right<T: Copy>(alloc: Global, left: Tree<T>, right: &Tree<T>) -> Result<
     fork_with_right(alloc, left, right)
 }
 
-// The two rows, one behind the other, if one may be too high for a fork of both.
+// Returns `left`, then `right`. One of them may be too high for a fork of both.
 fn balanced<T: Copy>(alloc: Global, left: Tree<T>, right: Tree<T>) -> Result<Tree<T>, AllocError>
     requires left { 0 < length left }
     requires right { 0 < length right }
@@ -365,7 +370,7 @@ fn balanced<T: Copy>(alloc: Global, left: Tree<T>, right: Tree<T>) -> Result<Tre
     fork(alloc, left, right)
 }
 
-// The same, with a copy of the left one.
+// Returns a copy of `left`, then `right`. One of them may be too high for a fork of both.
 #[inline(always)]
 fn balanced_with_left<T: Copy>(
     alloc: Global,
@@ -379,7 +384,7 @@ fn balanced_with_left<T: Copy>(
     balanced(alloc, left.copy()?, right)
 }
 
-// The same, with a copy of the right one.
+// Returns `left`, then a copy of `right`. One of them may be too high for a fork of both.
 #[inline(always)]
 fn balanced_with_right<T: Copy>(
     alloc: Global,
@@ -393,7 +398,7 @@ fn balanced_with_right<T: Copy>(
     balanced(alloc, left, right.copy()?)
 }
 
-// The two rows, one behind the other, if one may be too high for a fork of both, or empty.
+// Returns `left`, then `right`. One of them may be empty, or too high for a fork of both.
 fn joined<T: Copy>(alloc: Global, left: Tree<T>, right: Tree<T>) -> Result<Tree<T>, AllocError>
     ensures { IfOk result (λ tree. tree ≡ left ++ right) }
 {
@@ -406,7 +411,7 @@ fn joined<T: Copy>(alloc: Global, left: Tree<T>, right: Tree<T>) -> Result<Tree<
     balanced(alloc, left, right)
 }
 
-// The same, with a copy of the left one.
+// Returns a copy of `left`, then `right`. One of them may be empty, or too high for a fork of both.
 #[inline(always)]
 fn joined_with_left<T: Copy>(
     alloc: Global,
@@ -418,7 +423,7 @@ fn joined_with_left<T: Copy>(
     joined(alloc, left.copy()?, right)
 }
 
-// The same, with a copy of the right one.
+// Returns `left`, then a copy of `right`. One of them may be empty, or too high for a fork of both.
 #[inline(always)]
 fn joined_with_right<T: Copy>(
     alloc: Global,
@@ -430,7 +435,7 @@ fn joined_with_right<T: Copy>(
     joined(alloc, left, right.copy()?)
 }
 
-// The row of the values of a leaf, which are these, with one more at this place.
+// Returns the tree of a leaf, whose values are `values`, with `value` inserted at index `at`.
 fn leaf_with_more<T: Copy>(
     alloc: Global,
     leaf: &Tree<T>,
@@ -452,14 +457,14 @@ fn leaf_with_more<T: Copy>(
 }
 
 impl<T: Copy> Tree<T> {
-    /// No values.
+    /// Returns an empty tree.
     pub fn new() -> Tree<T>
         ensures { result ≡ [] }
     {
         Tree { node: Node::Empty }
     }
 
-    /// The number of values. Takes constant time.
+    /// Returns the number of values. Takes constant time.
     pub fn len(&self) -> usize
         ensures { result ≡ length self.now }
     {
@@ -470,7 +475,7 @@ impl<T: Copy> Tree<T> {
         }
     }
 
-    // How many forks are above the deepest leaf.
+    // Returns the number of forks above the deepest leaf.
     fn height(&self) -> u8 {
         match &self.node {
             Node::Fork(pair) => pair.height,
@@ -478,7 +483,7 @@ impl<T: Copy> Tree<T> {
         }
     }
 
-    /// The first value. Takes constant time.
+    /// Returns the first value. Takes constant time.
     pub fn first(&self) -> T
         requires { 0 < length self.now }
         ensures { (d : T) → result ≡ get_or self.now 0 d }
@@ -490,7 +495,8 @@ impl<T: Copy> Tree<T> {
         }
     }
 
-    /// A tree that shares all values. Takes constant time, and no memory; `AllocError` if as many trees share them as can be counted.
+    /// Returns a tree that shares all values. Takes constant time, and does not allocate. `AllocError` if the number of trees that share
+    /// the values cannot grow any more.
     pub fn copy(&self) -> Result<Tree<T>, AllocError>
         ensures { IfOk result (λ tree. tree ≡ self.now) }
     {
@@ -505,7 +511,7 @@ impl<T: Copy> Tree<T> {
         }
     }
 
-    /// The values with `value` inserted at place `at`. Costs time and memory in O(log n).
+    /// Returns the values with `value` inserted at index `at`. Costs O(log n) time and memory.
     pub fn with(&self, alloc: Global, at: usize, value: T) -> Result<Tree<T>, AllocError>
         requires { at ≤ length self.now }
         ensures { IfOk result (λ tree. tree ≡ insert self.now at value) }
@@ -525,7 +531,7 @@ impl<T: Copy> Tree<T> {
         }
     }
 
-    /// The values without the one at place `at`. Costs time and memory in O(log n).
+    /// Returns the values without the one at index `at`. Costs O(log n) time and memory.
     pub fn without(&self, alloc: Global, at: usize) -> Result<Tree<T>, AllocError>
         requires { at < length self.now }
         ensures { IfOk result (λ tree. tree ≡ remove self.now at) }
@@ -552,7 +558,7 @@ impl<T: Copy> Tree<T> {
         }
     }
 
-    /// Replaces the value at place `at` by `value`. Costs time and memory in O(log n).
+    /// Returns the values with the one at index `at` replaced by `value`. Costs O(log n) time and memory.
     pub fn replaced(&self, alloc: Global, at: usize, value: T) -> Result<Tree<T>, AllocError>
         requires { at < length self.now }
         ensures { IfOk result (λ tree. tree ≡ take at self.now ++ value ∷ drop (at + 1) self.now) }
@@ -572,7 +578,7 @@ impl<T: Copy> Tree<T> {
         }
     }
 
-    /// Replaces the values in from..to (at most two) by `value`. Costs time and memory in O(log n).
+    /// Returns the values with those in `from..to` (at most two) replaced by `value`. Costs O(log n) time and memory.
     pub fn spliced(
         &self,
         alloc: Global,
@@ -595,7 +601,7 @@ impl<T: Copy> Tree<T> {
         fewer.replaced(alloc, from, value)
     }
 
-    /// The values from place `at` on that are stored in one piece of memory. Costs O(log n).
+    /// Returns the values from index `at` on that are stored contiguously. Costs O(log n).
     pub fn part_at(&self, at: usize) -> &[T]
         requires { at < length self.now }
         ensures some { 0 < length result.now }
@@ -615,7 +621,7 @@ impl<T: Copy> Tree<T> {
         }
     }
 
-    /// The value at this place. Costs O(log n).
+    /// Returns the value at index `at`. Costs O(log n).
     pub fn get(&self, at: usize) -> T
         requires { at < length self.now }
         ensures { (d : T) → result ≡ get_or self.now at d }
@@ -623,7 +629,7 @@ impl<T: Copy> Tree<T> {
         self.part_at(at)[0]
     }
 
-    /// Appends the values to the list; `AllocError` if there is no memory for them, and then some may be appended. Costs O(values).
+    /// Appends the values to `list`. `AllocError` if an allocation fails; some of the values may have been appended then. Costs O(values).
     pub fn append_to(&self, list: &mut Vec<T>) -> Result<(), AllocError>
         ensures { OnOk result (list.new.items ≡ list.old.items ++ self.now) }
     {
@@ -639,8 +645,8 @@ impl<T: Copy> Tree<T> {
 }
 
 impl<T: Placed> Tree<T> {
-    /// A place that splits the row: the element before it, if any, has a place below `value`, and the element at it, if any, has not. A row that
-    /// never falls has exactly one such place. Costs O(log n).
+    /// Returns an index that splits the row by place. The element before this index, if any, has a place below `value`. The element at this
+    /// index, if any, has a place of at least `value`. A row of ascending places has exactly one such index. Costs O(log n).
     pub fn place_of(&self, value: i64) -> usize
         ensures within { result ≤ length self.now }
         ensures before { (k : ℕ) (d : T) → result ≡ k + 1 → T.place (get_or self.now k d) <ℤ value }
@@ -659,7 +665,7 @@ impl<T: Placed> Tree<T> {
         }
     }
 
-    /// Whether both have the same values in the same order.
+    /// Returns whether both trees have the same values in the same order.
     pub fn same(&self, other: &Tree<T>) -> bool
         ensures { IsTrue result ↔ (self.now ≡ other.now) }
     {
@@ -673,7 +679,7 @@ impl<T: Placed> Tree<T> {
         self.same_by_parts(other)
     }
 
-    // The same, compared part by part, each in one piece of memory.
+    // Returns whether both trees have the same values in the same order. Compares contiguous parts with each other.
     fn same_by_parts(&self, other: &Tree<T>) -> bool
         ensures { IsTrue result ↔ (self.now ≡ other.now) }
     {

@@ -1,6 +1,6 @@
 -- Elements one after the other, each with the gap behind it
 use Rattle.std.proofs.Common.{◌≡◌, ℕ, ◌+◌, ◌<◌, List, ◌∷◌, sym, ap, ◌∙◌, subst, arith}
-use Rattle.edn.specs.Value.{Value, keyword, vector, pairs, Values, more, Pairs, in_text, keys, AreDistinct}
+use Rattle.edn_values.specs.Value.{Value, keyword, vector, pairs, Values, more, Pairs, in_text, keys, AreDistinct}
 use Rattle.edn.specs.Bytes.{IsKeywordText, IsAtom}
 use Rattle.edn.specs.Bytes.IsAtom.{named}
 use Rattle.edn.specs.Text.{SkipsGap, Reads, ReadsAll}

@@ -1,6 +1,6 @@
 -- Values that are passed over
 use Rattle.std.proofs.Common.{◌≡◌, ℕ, ◌+◌, ◌<◌, List, ◌∷◌, sym, subst, length, arith}
-use Rattle.edn.specs.Value.{Value, text, vector, Values, none, more}
+use Rattle.edn_values.specs.Value.{Value, text, vector, Values, none, more}
 use Rattle.edn.specs.Text.{SkipsGap, Reads, ReadsAll}
 use Rattle.edn.specs.Text.SkipsGap.{no_gap}
 use Rattle.edn.specs.Text.Reads.{in_quotes, in_brackets}

@@ -1,7 +1,7 @@
 -- Numerals that are whole words
 use Rattle.std.proofs.Common.{◌≡◌, ℕ, ◌^◌, ◌<◌, ◌≤◌, List, [], ◌∷◌, inl, refl, sym, subst, ℤ, pos, neg_ℤ, arith}
 use Rattle.std.specs.Str.Parse.{digits_value}
-use Rattle.edn.specs.Value.{int}
+use Rattle.edn_values.specs.Value.{int}
 use Rattle.edn.specs.Bytes.IsAtom.{plain, minus}
 use Rattle.edn.proofs.Digits.{DigitsSoFar}
 use Rattle.events.specs.EventMap.{number}

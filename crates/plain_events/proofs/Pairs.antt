@@ -4,8 +4,8 @@ use Rattle.std.specs.List.{Contains}
 use Rattle.std.specs.Str.{bytes_eq}
 use Rattle.std.proofs.lemmas.List.Elements.{Contains-append_left, Contains-push}
 use Rattle.std.proofs.lemmas.Slice.Eq.{bytes_eq-Decides}
-use Rattle.edn.specs.Value.{Value, nil, bool, int, text, keyword, vector, pairs, members, Pairs, no_pairs, pair, in_text, keys, Same, IsNotAmong, AreDistinct}
-use Rattle.edn.specs.Parts.{is_keyword, value_at}
+use Rattle.edn_values.specs.Value.{Value, nil, bool, int, text, keyword, vector, pairs, members, Pairs, no_pairs, pair, in_text, keys, Same, IsNotAmong, AreDistinct}
+use Rattle.edn_values.specs.Parts.{is_keyword, value_at}
 use Rattle.edn.specs.Text.{SkipsGap, ReadsAll}
 use Rattle.edn.specs.Text.SkipsGap.{no_gap}
 use Rattle.edn.specs.Text.Reads.{in_braces}

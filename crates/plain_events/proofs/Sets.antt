@@ -4,9 +4,9 @@ use Rattle.std.specs.Prelude.{int_lt}
 use Rattle.std.specs.List.{Contains}
 use Rattle.std.proofs.lemmas.Int.{ints}
 use Rattle.std.proofs.lemmas.List.Elements.{Contains-push_cases}
-use Rattle.edn.specs.Value.{Value, int, members, Values, none, more, joined, IsNotAmong, AreDistinct}
-use Rattle.edn.specs.Parts.{int_in}
-use Rattle.edn.specs.View.{list_of}
+use Rattle.edn_values.specs.Value.{Value, int, members, Values, none, more, joined, IsNotAmong, AreDistinct}
+use Rattle.edn_values.specs.Parts.{int_in}
+use Rattle.edn_values.specs.View.{list_of}
 use Rattle.edn.specs.Text.{SkipsGap, Reads, ReadsAll}
 use Rattle.edn.specs.Text.SkipsGap.{no_gap}
 use Rattle.edn.specs.Text.Reads.{in_hash_braces}

@@ -1,6 +1,6 @@
 -- The parts, the pairs and the map of an event that is spelled plainly
-use Rattle.std.proofs.Common.{◌≡◌, ℕ, ◌<◌, ◌^◌, ℤ, Option, Some, None, Bor, IfSome, List, [], ◌∷◌, codes, refl, sym, subst, arith}
-use Rattle.edn.specs.Value.{Value, nil, int, keyword, vector, pairs, none, more, Pairs, no_pairs, pair, in_text, keys, AreDistinct}
+use Rattle.std.proofs.Common.{◌≡◌, false, ℕ, ◌<◌, ◌^◌, ℤ, Option, Some, None, Bor, IfSome, List, [], ◌∷◌, codes, refl, sym, subst, arith}
+use Rattle.edn_values.specs.Value.{Value, nil, int, keyword, vector, pairs, none, more, Pairs, no_pairs, pair, in_text, keys, AreDistinct}
 use Rattle.edn.specs.Bytes.IsAtom.{spelled_nil}
 use Rattle.edn.specs.Text.{SkipsGap, ReadsAll}
 use Rattle.edn.specs.Text.SkipsGap.{no_gap}
@@ -9,13 +9,15 @@ use Rattle.models.specs.declared.operation.Name.{Name}
 use Rattle.models.specs.declared.operation.Part.{Part}
 use Rattle.models.specs.declared.operation.Part.TheVariants.{Nil, Pair}
 use Rattle.models.specs.declared.operation.Op.{Op}
-use Rattle.models.specs.Names.{text_of}
+use Rattle.models.specs.Names.{text_of, HasText}
 use Rattle.events.specs.declared.event.EventKind.{EventKind}
 use Rattle.events.specs.declared.event.Process.TheVariants.{Client}
 use Rattle.events.specs.declared.event.Body.TheVariants.{Op as AnOp}
 use Rattle.events.specs.declared.event.Event.{Event}
 use Rattle.events.specs.EventMap.{number}
-use Rattle.events.specs.Spelling.{text_of_kind, SpellsKeyed, Spells}
+use Rattle.events.specs.Spelling.{text_of_kind, SpellsKeyed, SpellsOpBy, Spells}
+use Rattle.events.specs.OwnNames.{no_names}
+use Rattle.events.proofs.OneEvent.{from_text}
 use Rattle.events.specs.Tables.{IsPartOf}
 use Rattle.plain_events.specs.Plain.{BeginsWith, IsLineOf}
 use Rattle.plain_events.specs.Prefixes.{IsWordAt, IsByteAt, IsAtomAt, IsPairAt, IsIndexAt, AreTwoAt, IsPartAt, IsValueAt, IsEventBy, AreUsualAt, IsMapBehind}
@@ -105,19 +107,24 @@ event_by index kind process name key part =
     let op : Op = record { name = name; key = key; part = part } in
     record { index = index; kind = kind; process = Client process; body = AnOp op }
 
-map_spells : (index : Option ℕ) (t u : List ℕ) (kind : EventKind) (process : ℕ) (name : Name) (key : ℕ) (part : Part) (value : Value) → IsIndexAt t index u → process < 2 ^ 32 →
+-- an operation of a name of the program
+op_spelled : (kind : EventKind) (client : ℕ) (name : Name) (key : ℕ) (part : Part) (value : Value) → HasText name → SpellsKeyed value key part
+    → SpellsOpBy no_names kind client (keyword (text_of name)) value (record { name = name; key = key; part = part })
+op_spelled kind client name key part value has s = (false, (text_of name, refl, from_text no_names (text_of name) name has refl), s)
+
+map_spells : (index : Option ℕ) (t u : List ℕ) (kind : EventKind) (process : ℕ) (name : Name) (key : ℕ) (part : Part) (value : Value) → HasText name → IsIndexAt t index u → process < 2 ^ 32 →
     SpellsKeyed value key part → IsPartOf kind name part →
     Spells (pairs (with_index index (plain_pairs (keyword (text_of_kind kind)) (number process) (keyword (text_of name)) value))) (event_by index kind process name key part)
-map_spells (Some n) t u kind process name key part value i p s fits = record { head = ((refl, i.1), refl, (refl, p)); body = (refl, s); in_tables = fits }
-map_spells None t u kind process name key part value i p s fits = record { head = (tt, refl, (refl, p)); body = (refl, s); in_tables = fits }
+map_spells (Some n) t u kind process name key part value has i p s fits = record { head = ((refl, i.1), refl, (refl, p)); body = op_spelled kind process name key part value has s; in_tables = fits }
+map_spells None t u kind process name key part value has i p s fits = record { head = (tt, refl, (refl, p)); body = op_spelled kind process name key part value has s; in_tables = fits }
 
 abbrev pub all_pairs : {text : List ℕ} {index : Option ℕ} {kind : EventKind} {process : ℕ} {op : Op} {rest : List ℕ} → AreUsualAt text index kind process op rest → Pairs
 all_pairs {index = index} {kind = kind} {process = process} {op = op} u = with_index index (plain_pairs (keyword (text_of_kind kind)) (number process) (keyword (text_of op.name)) u.value_at.value)
 
 pub usual_by : (inner second third fourth fifth rest : List ℕ) (index : Option ℕ) (kind : EventKind) (process : ℕ) (name : Name) (key : ℕ) (part : Part) → IsIndexAt inner index second →
-    IsPairAt second (codes "type") (keyword (text_of_kind kind)) third → IsPairAt third (codes "process") (number process) fourth → process < 2 ^ 32 → IsPairAt fourth (codes "f") (keyword (text_of name)) fifth →
+    IsPairAt second (codes "type") (keyword (text_of_kind kind)) third → IsPairAt third (codes "process") (number process) fourth → process < 2 ^ 32 → IsPairAt fourth (codes "f") (keyword (text_of name)) fifth → HasText name →
     IsValueAt fifth key part rest → AreUsualAt inner index kind process (record { name = name; key = key; part = part }) rest
-usual_by inner second third fourth fifth rest index kind process name key part i k p small f v = record {
+usual_by inner second third fourth fifth rest index kind process name key part i k p small f known v = record {
   second = second;
   third = third;
   fourth = fourth;
@@ -127,6 +134,7 @@ usual_by inner second third fourth fifth rest index kind process name key part i
   process_at = p;
   small = small;
   name_at = f;
+  known = known;
   value_at = v;
 }
 
@@ -152,7 +160,7 @@ map_behind inner index kind process op closing rest event u e w = record {
   all = all_pairs u;
   inside = pairs_end 1 inner (all_pairs u) closing (125 ∷ rest) (usual_at inner index kind process op closing u) e;
   apart = keys_apart index _ _ _ _;
-  spells = subst (Spells (pairs (all_pairs u))) (sym w.event) (map_spells index inner u.second kind process op.name op.key op.part u.value_at.value u.index_at u.small u.value_at.spells w.fits);
+  spells = subst (Spells (pairs (all_pairs u))) (sym w.event) (map_spells index inner u.second kind process op.name op.key op.part u.value_at.value u.known u.index_at u.small u.value_at.spells w.fits);
 }
 
 pub map_begins : (text front inner rest : List ℕ) (event : Event) → SkipsGap 0 text front → IsByteAt front 123 inner → IsMapBehind inner event rest → BeginsWith text event rest

@@ -3,18 +3,20 @@ use Rattle.std.proofs.Common.{◌≡◌, ℕ, ◌<◌, ◌^◌, false, cond, ap,
 use Rattle.std.specs.Prelude.{IsSomeAnd}
 use Rattle.std.specs.List.{Contains}
 use Rattle.std.specs.Str.{bytes_eq}
-use Rattle.edn.specs.Value.{Value, keyword, pairs, Pairs, no_pairs, pair}
-use Rattle.edn.specs.Parts.{value_at}
+use Rattle.edn_values.specs.Value.{Value, keyword, pairs, Pairs, no_pairs, pair}
+use Rattle.edn_values.specs.Parts.{value_at}
 use Rattle.models.specs.declared.operation.Name.{Name}
 use Rattle.models.specs.declared.operation.Part.{Part}
 use Rattle.models.specs.declared.operation.Op.{Op}
-use Rattle.models.specs.Names.{text_of}
+use Rattle.models.specs.Names.{text_of, HasText}
+use Rattle.events.specs.OwnNames.{no_names}
+use Rattle.events.proofs.OneEvent.{from_text}
 use Rattle.events.specs.EventMap.{number}
 use Rattle.events.specs.declared.event.EventKind.{EventKind}
 use Rattle.events.specs.declared.event.Process.TheVariants.{Client}
 use Rattle.events.specs.declared.event.Body.TheVariants.{Op as AnOp}
 use Rattle.events.specs.declared.event.Event.{Event}
-use Rattle.events.specs.Spelling.{IsNumber, text_of_kind, SpellsIndex, SpellsKind, SpellsName, SpellsKeyed, SpellsOp, Spells}
+use Rattle.events.specs.Spelling.{IsNumber, text_of_kind, SpellsIndex, SpellsKind, SpellsName, SpellsKeyed, SpellsOpBy, Spells}
 use Rattle.plain_events.specs.declared.found.Found.{Found}
 use Rattle.plain_events.specs.Prefixes.{IsIndexAt, AreUsualAt, IsMapBehind}
 use Rattle.plain_events.specs.Keys.{mark_of, IsFurther, IsNewKeyAt, push, ArePairsAt}
@@ -151,29 +153,29 @@ usual_off name kind process f value far =
     off name (codes "type") kind second far.no_type
     (off name (codes "process") process third far.no_process (off name (codes "f") f fourth far.no_name (off name (codes "value") value no_pairs far.no_value refl)))
 
-usual_say : (text second : List ℕ) (index : Option ℕ) (kind : EventKind) (process : ℕ) (op : Op) (value : Value) (found : Found) → IsIndexAt text index second → process < 2 ^ 32 → SpellsKeyed value op.key op.part →
+usual_say : (text second : List ℕ) (index : Option ℕ) (kind : EventKind) (process : ℕ) (op : Op) (value : Value) (found : Found) → HasText op.name → IsIndexAt text index second → process < 2 ^ 32 → SpellsKeyed value op.key op.part →
     Say (with_index index (plain_pairs (keyword (text_of_kind kind)) (number process) (keyword (text_of op.name)) value)) (record { index = index; kind = Some kind; process = Some process; name = Some op.name; value = Some (op.key, op.part); marks = found.marks })
-usual_say text second (Some n) kind process op value found i small s = record {
+usual_say text second (Some n) kind process op value found has i small s = record {
   index = (refl, i.1);
   kind = refl;
   process = (refl, small);
-  name = refl;
+  name = (has, refl);
   value = s;
   marked = λ name far m.
       let usual = plain_pairs (keyword (text_of_kind kind)) (number process) (keyword (text_of op.name)) value in
       off name (codes "index") (number n) usual far.no_index (usual_off name (keyword (text_of_kind kind)) (number process) (keyword (text_of op.name)) value far);
 }
-usual_say text second None kind process op value found i small s = record {
+usual_say text second None kind process op value found has i small s = record {
   index = tt;
   kind = refl;
   process = (refl, small);
-  name = refl;
+  name = (has, refl);
   value = s;
   marked = λ name far m. usual_off name (keyword (text_of_kind kind)) (number process) (keyword (text_of op.name)) value far;
 }
 
 pub usual_told : (inner : List ℕ) (index : Option ℕ) (kind : EventKind) (process : ℕ) (op : Op) (rest : List ℕ) (found : Found) (u : AreUsualAt inner index kind process op rest) → IsFoundOf index kind process op found → Say (all_pairs u) found
-usual_told inner index kind process op rest found u e = subst (Say (all_pairs u)) (sym e) (usual_say inner u.second index kind process op u.value_at.value found u.index_at u.small u.value_at.spells)
+usual_told inner index kind process op rest found u e = subst (Say (all_pairs u)) (sym e) (usual_say inner u.second index kind process op u.value_at.value found u.known u.index_at u.small u.value_at.spells)
 
 pub any_behind : (index : Option ℕ) (kind : EventKind) (process : ℕ) (op : Op) (rest : List ℕ) (found : Found) (r : Option (Event × Bor (List ℕ))) → IsFoundOf index kind process op found →
     IfSome r (λ x. (inner : List ℕ) (ps : Pairs) → ArePairsAt 1 inner ps rest → Say ps found → IsMapBehind inner x.0 x.1.now) →
@@ -193,17 +195,18 @@ told : {X : Type 0} (Is : Value → X → Type 0) (o : Option Value) (x : X) →
 told Is (Some v) x t = t
 told Is None x t = absurd t
 
-told_body : (o q : Option Value) (op : Op) → Tells SpellsName o (Some op.name) → Tells IsValue q (Some (op.key, op.part)) → IsSomeAnd o (λ f. IsSomeAnd q (λ v. SpellsOp f v op))
-told_body (Some f) (Some v) op t u = (t, u)
-told_body None q op t u = absurd t
-told_body (Some f) None op t u = absurd u
+told_body : (kind : EventKind) (client : ℕ) (o q : Option Value) (op : Op) → Tells SpellsName o (Some op.name) → Tells IsValue q (Some (op.key, op.part))
+    → IsSomeAnd o (λ f. IsSomeAnd q (λ v. SpellsOpBy no_names kind client f v op))
+told_body kind client (Some f) (Some v) op t u = (false, (text_of op.name, t.1, from_text no_names (text_of op.name) op.name t.0 refl), u)
+told_body kind client None q op t u = absurd t
+told_body kind client (Some f) None op t u = absurd u
 
 all_told : (ps : Pairs) (found : Found) (e : Event) → Say ps found → IsEventOf found e → Spells (pairs ps) e
 all_told ps found e h w =
     let all = subst (Say ps) w.all h in
     let spells : Spells (pairs ps) (record { index = found.index; kind = w.kind; process = Client w.process; body = AnOp w.op }) = record {
       head = (told_index _ _ all.index, told SpellsKind _ _ all.kind, told (IsNumber (2 ^ 32)) _ _ all.process);
-      body = told_body _ _ w.op all.name all.value;
+      body = told_body w.kind w.process _ _ w.op all.name all.value;
       in_tables = w.event.fits;
     } in
     subst (Spells (pairs ps)) (sym w.event.event) spells

@@ -1,14 +1,14 @@
 -- The texts between the numbers of an event that is written in the usual order
 use Rattle.std.proofs.Common.{◌≡◌, ℕ, Some, List, ◌∷◌, ◌++◌, codes, refl, sym, ap, ◌∙◌, subst, append_assoc}
-use Rattle.edn.specs.Value.{keyword}
+use Rattle.edn_values.specs.Value.{keyword}
 use Rattle.edn.specs.Bytes.{MayFollowAtom, IsKeywordText}
 use Rattle.edn.specs.Text.{SkipsGap}
 use Rattle.edn.specs.Text.SkipsGap.{no_gap, white}
 use Rattle.models.specs.declared.operation.Name.{Name}
-use Rattle.models.specs.declared.operation.Name.TheVariants.{Read, Write, Cas, Acquire, Release, Enqueue, Dequeue, Add}
+use Rattle.models.specs.declared.operation.Name.TheVariants.{Read, Write, Cas, Acquire, Release, Enqueue, Dequeue, Add, Own}
 use Rattle.models.specs.declared.operation.Part.{Part}
 use Rattle.models.specs.declared.operation.Part.TheVariants.{Nil}
-use Rattle.models.specs.Names.{text_of}
+use Rattle.models.specs.Names.{text_of, HasText}
 use Rattle.events.specs.declared.event.EventKind.{EventKind}
 use Rattle.events.specs.declared.event.EventKind.TheVariants.{Invoke, Ok, Fail, Info}
 use Rattle.events.specs.EventMap.{number}
@@ -43,15 +43,16 @@ kind_is_keyword Ok = (refl, (refl, tt))
 kind_is_keyword Fail = (refl, (refl, (refl, (refl, tt))))
 kind_is_keyword Info = (refl, (refl, (refl, (refl, tt))))
 
-name_is_keyword : (name : Name) → IsKeywordText (text_of name)
-name_is_keyword Read = (refl, (refl, (refl, (refl, tt))))
-name_is_keyword Write = (refl, (refl, (refl, (refl, (refl, tt)))))
-name_is_keyword Cas = (refl, (refl, (refl, tt)))
-name_is_keyword Acquire = (refl, (refl, (refl, (refl, (refl, (refl, (refl, tt)))))))
-name_is_keyword Release = (refl, (refl, (refl, (refl, (refl, (refl, (refl, tt)))))))
-name_is_keyword Enqueue = (refl, (refl, (refl, (refl, (refl, (refl, (refl, tt)))))))
-name_is_keyword Dequeue = (refl, (refl, (refl, (refl, (refl, (refl, (refl, tt)))))))
-name_is_keyword Add = (refl, (refl, (refl, tt)))
+name_is_keyword : (name : Name) → HasText name → IsKeywordText (text_of name)
+name_is_keyword Read has = (refl, (refl, (refl, (refl, tt))))
+name_is_keyword Write has = (refl, (refl, (refl, (refl, (refl, tt)))))
+name_is_keyword Cas has = (refl, (refl, (refl, tt)))
+name_is_keyword Acquire has = (refl, (refl, (refl, (refl, (refl, (refl, (refl, tt)))))))
+name_is_keyword Release has = (refl, (refl, (refl, (refl, (refl, (refl, (refl, tt)))))))
+name_is_keyword Enqueue has = (refl, (refl, (refl, (refl, (refl, (refl, (refl, tt)))))))
+name_is_keyword Dequeue has = (refl, (refl, (refl, (refl, (refl, (refl, (refl, tt)))))))
+name_is_keyword Add has = (refl, (refl, (refl, tt)))
+name_is_keyword (Own number) has = absurd has
 
 -- the text from each pair on
 abbrev from_process : List ℕ → List ℕ
@@ -105,8 +106,9 @@ usual_map text rest middle index kind process name key part h t = record {
       (record {
         behind = from_name name t.number;
         key = before_blank (codes "f") (refl, tt) refl 1;
-        value = before_comma (text_of name) (name_is_keyword name) refl 1;
+        value = before_comma (text_of name) (name_is_keyword name t.known) refl 1;
       })
+      t.known
       (value_at (from_value t.number) (91 ∷ t.number) t.number t.part_behind.second t.part_behind.closing rest key part
       (before_blank (codes "value") (refl, (refl, (refl, (refl, (refl, tt))))) refl) (record { behind = t.number; cut = refl; gap = λ d. no_gap })
       (number_before_blank t.number t.behind t.part_behind.second key t.key_at t.part_behind.cut) t.small t.part_behind.part_at t.part_behind.end);

@@ -1,7 +1,7 @@
 -- Results of the functions below, as their callers need them
 use Rattle.std.proofs.Common.{◌≡◌, ℕ, ◌+◌, ◌-◌, ◌<◌, ◌≤◌, List, [], ◌∷◌, ◌++◌, length, take, drop, get_or, Option, Some, None, Bor, IfSome, refl, sym, ap, ◌∙◌, subst, append_assoc, arith}
 use Rattle.std.proofs.lemmas.List.{take_more, take_all, take-append-drop}
-use Rattle.edn.specs.Value.{Value, keyword}
+use Rattle.edn_values.specs.Value.{Value, keyword}
 use Rattle.edn.specs.Bytes.{MayFollowAtom, IsKeywordText}
 use Rattle.edn.specs.Text.{SkipsGap}
 use Rattle.plain_events.specs.Prefixes.{IsWordAt, IsAtomAt, IsPairAt}

@@ -1,13 +1,13 @@
--- Invariant: the pairs of a map, whose keys are keywords, each other than those before it
+-- Invariant: the pairs of a map, whose keys are different keywords
 use Rattle.std.specs.Prelude.{◌≡◌, ℕ, ◌+◌, ◌*◌, ◌%◌, IsTrue, None, List, [], ◌∷◌, ◌++◌, codes}
 use Rattle.std.specs.List.{AllByRecursion, Contains}
-use Rattle.edn.specs.Value.{Value, keyword, Pairs, no_pairs, pair, in_text, keys, AreDistinct}
+use Rattle.edn_values.specs.Value.{Value, keyword, Pairs, no_pairs, pair, in_text, keys, AreDistinct}
 use Rattle.edn.specs.Bytes.{goes_on}
-use Rattle.edn.specs.Parts.{value_at}
+use Rattle.edn_values.specs.Parts.{value_at}
 use Rattle.edn.specs.Text.{ReadsAll}
 use Rattle.plain_events.specs.Prefixes.{IsAtomAt}
 
--- the mark of a name, one byte after the other: the low 56 bits of the mark so far, times 131, and the byte
+-- the mark of a name, byte after byte: the low 56 bits of the mark so far, times 131, plus the byte
 abbrev pub mark_from : ℕ → List ℕ → ℕ
 mark_from m [] = m
 mark_from m (b ∷ bs) = mark_from (m % 72057594037927936 * 131 + b) bs
@@ -15,17 +15,17 @@ mark_from m (b ∷ bs) = mark_from (m % 72057594037927936 * 131 + b) bs
 abbrev pub mark_of : List ℕ → ℕ
 mark_of = mark_from 0
 
--- bytes that may stand in a name
+-- bytes that may occur in a name
 abbrev pub AreNameBytes : List ℕ → Type 0
 AreNameBytes = AllByRecursion (λ b. IsTrue (goes_on b))
 
--- a key of this name stands at the front, and rest follows it and a gap. Its mark is none of the marks, and is put behind them
+-- the text begins with a key of this name and a gap, and rest follows them. Its mark is none of the marks, and is appended to them
 pub record IsNewKeyAt (marks text name marked rest : List ℕ) : Type 0 where
   pub key : IsAtomAt text (keyword name) rest
   pub new : ¬ Contains marks (mark_of name)
   pub put : marked ≡ marks ++ mark_of name ∷ []
 
--- no event is read by a key of this name
+-- this is not the name of a field of an event
 pub record IsFurther (name : List ℕ) : Type 0 where
   pub no_index : ¬ (name ≡ codes "index")
   pub no_type : ¬ (name ≡ codes "type")
@@ -37,16 +37,16 @@ abbrev pub followed_by : Pairs → Pairs → Pairs
 followed_by no_pairs qs = qs
 followed_by (pair k v ps) qs = pair k v (followed_by ps qs)
 
--- the pairs, and behind them one more
+-- the pairs, followed by one more
 abbrev pub push : Pairs → List ℕ → Value → Pairs
 push ps name v = followed_by ps (pair (keyword name) v no_pairs)
 
--- the text begins with these pairs, whose keys are distinct, and rest follows them, while d collections are open: the text has the pairs of
--- rest behind them
+-- inside d open collections the text begins with these pairs, whose keys are distinct, and rest follows them: the text has these pairs and
+-- then the pairs of rest
 pub record ArePairsAt (d : ℕ) (text : List ℕ) (ps : Pairs) (rest : List ℕ) : Type 0 where
   pub reads : (qs : Pairs) (end : List ℕ) → ReadsAll d rest (in_text qs) end → ReadsAll d text (in_text (followed_by ps qs)) end
   pub apart : AreDistinct (keys ps)
 
--- no name but those of these marks is a key of the pairs
+-- every key of the pairs has one of these marks
 abbrev pub AreMarked : Pairs → List ℕ → Type 0
 AreMarked ps marks = (name : List ℕ) → ¬ Contains marks (mark_of name) → value_at name ps ≡ None

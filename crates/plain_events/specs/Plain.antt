@@ -1,12 +1,12 @@
--- Promise: the event that a text begins with, and the one that is all of a line
+-- Promise: the event at the beginning of a text, and the event of a whole line
 use Rattle.std.specs.Prelude.{ℕ, List}
-use Rattle.edn.specs.Value.{Value, none, more}
+use Rattle.edn_values.specs.Value.{Value, none, more}
 use Rattle.edn.specs.Text.{IsText}
 use Rattle.edn.specs.Elements.{IsNextAt}
 use Rattle.events.specs.declared.event.Event.{Event}
 use Rattle.events.specs.Spelling.{Spells}
 
--- behind a gap an element stands that spells the event, and rest follows it
+-- after a gap comes an element that spells the event, and rest follows it
 abbrev pub BeginsWith : List ℕ → Event → List ℕ → Type 0
 BeginsWith text event rest = (v : Value) × IsNextAt text v rest × Spells v event
 

@@ -1,9 +1,9 @@
--- Invariant: an event that is written as `map_of_event` does, with its index, for the functions behind `plain_event`
+-- Invariant: an event in the spelling of `map_of_event`, with its index, for the functions behind `plain_event`
 use Rattle.std.specs.Prelude.{◌≡◌, ℕ, ◌<◌, ◌^◌, Some, List, ◌∷◌, ◌++◌, codes}
 use Rattle.models.specs.declared.operation.Name.{Name}
 use Rattle.models.specs.declared.operation.Part.{Part}
 use Rattle.models.specs.declared.operation.Op.{Op}
-use Rattle.models.specs.Names.{text_of}
+use Rattle.models.specs.Names.{text_of, HasText}
 use Rattle.events.specs.declared.event.EventKind.{EventKind}
 use Rattle.events.specs.Spelling.{text_of_kind}
 use Rattle.plain_events.specs.Prefixes.{IsByteAt, BeginsNumeral, IsPartAt, AreUsualAt}
@@ -28,7 +28,7 @@ pub record IsHeadAt (text : List ℕ) (index : ℕ) (kind : EventKind) (process 
   pub process_at : BeginsNumeral client process rest
   pub small : process < 2 ^ 32
 
--- behind the last digit of a key stand a part and a closing bracket, and rest follows it and a gap
+-- after the last digit of a key come a part and a closing bracket, and rest follows them and a gap
 pub record IsPartBehind (text : List ℕ) (part : Part) (rest : List ℕ) : Type 0 where
   pub second : List ℕ
   pub closing : List ℕ
@@ -36,16 +36,17 @@ pub record IsPartBehind (text : List ℕ) (part : Part) (rest : List ℕ) : Type
   pub part_at : IsPartAt second part closing
   pub end : IsByteAt closing 93 rest
 
--- behind the last digit of a process's number stand the pairs of a name and of a value
+-- after the last digit of a process's number come the pairs of a name and of a value
 pub record IsTailAt (text : List ℕ) (name : Name) (key : ℕ) (part : Part) (rest : List ℕ) : Type 0 where
   pub number : List ℕ
   pub behind : List ℕ
   pub name_at : text ≡ between_process_and_key name ++ number
+  pub known : HasText name
   pub key_at : BeginsNumeral number key behind
   pub small : key < 2 ^ 16
   pub part_behind : IsPartBehind behind part rest
 
--- an opening brace, and behind it the usual pairs
+-- an opening brace and the usual pairs
 pub record IsUsualMapAt (text : List ℕ) (index : ℕ) (kind : EventKind) (process : ℕ) (op : Op) (rest : List ℕ) : Type 0 where
   pub inner : List ℕ
   pub brace : IsByteAt text 123 inner

@@ -1,6 +1,6 @@
-//! Events that are spelled plainly.
+//! Events with a plain spelling.
 ghost use Rattle.std.specs.Prelude.{ℕ, List, ◌<◌, ◌^◌, codes, IfSome};
-ghost use Rattle.edn.specs.Value.{keyword, Pairs};
+ghost use Rattle.edn_values.specs.Value.{keyword, Pairs};
 ghost use Rattle.events.specs.Spelling.{text_of_kind};
 ghost use Rattle.events.specs.EventMap.{number};
 ghost use Rattle.plain_events.specs.Plain.{BeginsWith, IsLineOf};
@@ -17,7 +17,8 @@ use events::{Body, Event, EventKind, Process, is_part_of};
 use models::Op;
 use std::alloc::Global;
 
-/// The pair of `:index` and a number, if it is there, and what follows it; or none, which says nothing.
+/// Reads the pair of `:index` and a number, if it is there. Returns the number, if any, and the rest of `text`. `None` proves nothing about
+/// the text.
 #[inline(always)]
 pub fn index_pair(text: &[u8]) -> Option<(Option<u32>, &[u8])>
     ensures { IfSome result (λ x. IsIndexAt text.now x.0 x.1.now) }
@@ -29,7 +30,7 @@ pub fn index_pair(text: &[u8]) -> Option<(Option<u32>, &[u8])>
     Some((Some(index), rest))
 }
 
-// The type of the event.
+// Reads the type of an event. Returns it and the rest of `text`.
 #[inline(always)]
 fn kind_at(text: &[u8]) -> Option<(EventKind, &[u8])>
     ensures { IfSome result (λ x. IsAtomAt text.now (keyword (text_of_kind x.0)) x.1.now) }
@@ -47,7 +48,7 @@ fn kind_at(text: &[u8]) -> Option<(EventKind, &[u8])>
     Some((EventKind::Info, rest))
 }
 
-/// The pair of `:type` and what happens to the operation, and what follows it; or none, which says nothing.
+/// Reads the pair of `:type` and the type of an event. Returns the type and the rest of `text`. `None` proves nothing about the text.
 #[inline(always)]
 pub fn kind_pair(text: &[u8]) -> Option<(EventKind, &[u8])>
     ensures { IfSome result
@@ -57,7 +58,8 @@ pub fn kind_pair(text: &[u8]) -> Option<(EventKind, &[u8])>
     kind_at(value)
 }
 
-/// The pair of `:process` and the number of a client's, and what follows it; or none, which says nothing.
+/// Reads the pair of `:process` and the number of a client. Returns the number and the rest of `text`. `None` proves nothing about the
+/// text.
 #[inline(always)]
 pub fn process_pair(text: &[u8]) -> Option<(u32, &[u8])>
     ensures pair { IfSome result
@@ -68,7 +70,8 @@ pub fn process_pair(text: &[u8]) -> Option<(u32, &[u8])>
     number(value)
 }
 
-// The values found up to the closing brace, together with these, and the rest; or none, which says nothing.
+// Reads pairs up to the closing brace, and adds their values to `found`. Returns all values and the rest of `text`. `None` proves nothing
+// about the text.
 fn found_behind(alloc: Global, found: Found, text: &[u8]) -> Option<(Found, &[u8])>
     ensures { IfSome result (λ x. (inner : List ℕ) (ps : Pairs) → ArePairsAt 1 inner ps text.now
         → Say ps found → IsFoundBehind inner x.0 x.1.now) }
@@ -83,8 +86,8 @@ fn found_behind(alloc: Global, found: Found, text: &[u8]) -> Option<(Found, &[u8
     }
 }
 
-// The event with the pairs that were found and the other pairs up to the closing brace, and the text behind the brace. `None` says nothing of
-// the text.
+// Returns the event with the pairs in `found` and the further pairs up to the closing brace, and the text after the brace. `None` proves
+// nothing about the text.
 fn with_others(alloc: Global, found: Found, text: &[u8]) -> Option<(Event, &[u8])>
     ensures { IfSome result (λ x. (inner : List ℕ) (ps : Pairs) → ArePairsAt 1 inner ps text.now
         → Say ps found → IsMapBehind inner x.0 x.1.now) }
@@ -94,7 +97,8 @@ fn with_others(alloc: Global, found: Found, text: &[u8]) -> Option<(Event, &[u8]
     Some((event, rest))
 }
 
-// The event whose pairs follow an opening brace, in any order, and the text behind the closing brace. `None` says nothing of the text.
+// Returns the event whose pairs follow an opening brace in any order, and the text after the closing brace. `None` proves nothing about the
+// text.
 #[inline(never)]
 fn in_any_order(alloc: Global, inner: &[u8]) -> Option<(Event, &[u8])>
     ensures { IfSome result (λ x. IsMapBehind inner.now x.0 x.1.now) }
@@ -102,7 +106,8 @@ fn in_any_order(alloc: Global, inner: &[u8]) -> Option<(Event, &[u8])>
     with_others(alloc, Found::new(), inner)
 }
 
-// The event with the pairs that were read in the usual order, and the other pairs behind them.
+// Returns the event with the given values, which were read in the usual order, and with the further pairs in `rest`. Also returns the text
+// after the closing brace.
 #[inline(never)]
 fn and_others(
     alloc: Global,
@@ -118,7 +123,8 @@ fn and_others(
     with_others(alloc, Found::of(index, kind, process, op), rest)
 }
 
-// The event of which this was read in the usual order, up to the closing brace, and the text behind it. `None` says nothing.
+// Returns the event with the given values, which were read in the usual order, if the brace closes it here or further pairs follow. Also
+// returns the text after the closing brace. `None` proves nothing about the text.
 #[inline(always)]
 fn closed(
     alloc: Global,
@@ -147,7 +153,8 @@ fn closed(
     Some((event, behind))
 }
 
-// The event whose pairs stand behind an opening brace, mostly in the usual order, and the text behind the closing brace. `None` says nothing.
+// Returns the event whose pairs follow an opening brace, mostly in the usual order, and the text after the closing brace. `None` proves
+// nothing about the text.
 #[inline(never)]
 fn pair_by_pair(alloc: Global, inner: &[u8]) -> Option<(Event, &[u8])>
     ensures { IfSome result (λ x. IsMapBehind inner.now x.0 x.1.now) }
@@ -170,10 +177,10 @@ fn pair_by_pair(alloc: Global, inner: &[u8]) -> Option<(Event, &[u8])>
     closed(alloc, index, kind, process, Op { name, key, part }, rest)
 }
 
-/// The event of a client that is spelled plainly at the beginning of the text, behind any white space, and the text behind it. `None` says
-/// nothing of the text. It allocates for the members of a set alone, and returns `None` if an allocation fails.
+/// Returns the client's event that is spelled plainly at the beginning of `text`, after any white space, and the text after it. `None`
+/// proves nothing about the text. Allocates only for the members of a set, and returns `None` if the allocation fails.
 ///
-/// Costs one pass over the event, and a second pass over its first pairs if they are in the usual order and later ones are not.
+/// Costs one pass over the event. If only its first pairs are in the usual order, these pairs cost a second pass.
 pub fn plain_event(alloc: Global, text: &[u8]) -> Option<(Event, &[u8])>
     ensures { IfSome result (λ x. BeginsWith text.now x.0 x.1.now) }
 {
@@ -185,8 +192,8 @@ pub fn plain_event(alloc: Global, text: &[u8]) -> Option<(Event, &[u8])>
     pair_by_pair(alloc, inner)
 }
 
-/// The event of a client that a line spells plainly, with only white space around it. `None` says nothing of the line. It allocates for the
-/// members of a set alone, and returns `None` if an allocation fails.
+/// Returns the client's event that a line spells plainly, with only white space around it. `None` proves nothing about the line. Allocates
+/// only for the members of a set, and returns `None` if the allocation fails.
 ///
 /// Costs O(bytes).
 pub fn plain_line(alloc: Global, line: &[u8]) -> Option<Event>

@@ -1,6 +1,6 @@
-//! The values at the keys of an event, in any order.
+//! The values at the keys of an event's map, in any order.
 ghost use Rattle.std.specs.Prelude.{◌^◌, codes, IfSome};
-ghost use Rattle.edn.specs.Value.{Value, no_pairs};
+ghost use Rattle.edn_values.specs.Value.{Value, no_pairs};
 ghost use Rattle.events.specs.Spelling.{IsNumber, SpellsKind, SpellsName, SpellsKeyed};
 ghost use Rattle.plain_events.specs.Prefixes.{IsEventBy};
 ghost use Rattle.plain_events.specs.Found.{Say, IsFoundOf, Adds, AddsPairAt, IsEventOf};
@@ -13,7 +13,7 @@ use events::{Body, Event, EventKind, Process, is_part_of};
 use models::{Key, Name, Op, Part};
 use std::alloc::Global;
 
-// The event of this operation of a client, if the tables have it.
+// Returns the event of a client with this operation, if the tables of events allow it.
 fn event_of(index: Option<u32>, kind: EventKind, process: u32, op: Op) -> Option<Event>
     ensures { IfSome result (λ event. IsEventBy index kind process op event) }
 {
@@ -28,7 +28,7 @@ fn event_of(index: Option<u32>, kind: EventKind, process: u32, op: Op) -> Option
     })
 }
 
-/// The values found so far, and the marks of further keys.
+/// The values that were read so far, and the marks of the other keys.
 #[derive(Drop)]
 pub struct Found {
     index: Option<u32>,
@@ -40,7 +40,7 @@ pub struct Found {
 }
 
 impl Found {
-    /// Nothing yet.
+    /// Returns no values.
     pub fn new() -> Found
         ensures { Say no_pairs result }
     {
@@ -54,7 +54,7 @@ impl Found {
         }
     }
 
-    /// All but the marks of further keys.
+    /// Returns the given values, without the marks of other keys.
     pub fn of(index: Option<u32>, kind: EventKind, process: u32, op: Op) -> Found
         ensures { IsFoundOf index kind process op result }
     {
@@ -68,7 +68,7 @@ impl Found {
         }
     }
 
-    // Each of these finds what was read of a pair. None is found if there was such a pair before.
+    // Each of the following functions stores the value of one pair. It returns `None` if there was such a pair before.
 
     fn put_index(&mut self, index: u32) -> Option<()>
         ensures { IfSome result (λ _. (v : Value) → IsNumber (2 ^ 32) v index → Adds (codes "index") v self.old self.new) }
@@ -120,7 +120,7 @@ impl Found {
         Some(())
     }
 
-    // Passes over a further key and its value.
+    // Skips a pair with another key. Returns the rest of `text`.
     #[inline(never)]
     fn put_further<'a>(&mut self, text: &'a [u8]) -> Option<&'a [u8]>
         ensures { IfSome result (λ rest. AddsPairAt text.now self.old self.new rest.now) }
@@ -129,8 +129,8 @@ impl Found {
         past_value(1, value)
     }
 
-    /// Finds what the pair at the front says, whose key was not there before, and gives what follows it and the white space
-    /// behind it; or none, which says nothing. Memory is taken for the members of a set alone.
+    /// Reads one pair, whose key was not read before, and stores its value. Returns the text after the pair and its white space. `None`
+    /// proves nothing about the text. Allocates only for the members of a set.
     pub fn put<'a>(&mut self, alloc: Global, text: &'a [u8]) -> Option<&'a [u8]>
         ensures { IfSome result (λ rest. AddsPairAt text.now self.old self.new rest.now) }
     {
@@ -157,7 +157,7 @@ impl Found {
         self.put_further(text)
     }
 
-    /// The event of a client with all that was found. `None` says nothing of the text.
+    /// Returns the client's event with all values that were read. `None` proves nothing about the text.
     pub fn event(self) -> Option<Event>
         ensures { IfSome result (λ event. IsEventOf self event) }
     {

@@ -1,7 +1,7 @@
-//! Keys of a map, which are keywords, each other than those before it.
+//! Keys of a map. They must be keywords, and all different.
 ghost use Rattle.std.specs.Prelude.{◌≡◌, ℕ, List, [], ◌∷◌, ◌++◌, IsTrue, IfSome};
 ghost use Rattle.std.specs.List.{Contains};
-ghost use Rattle.edn.specs.Value.{keyword};
+ghost use Rattle.edn_values.specs.Value.{keyword};
 ghost use Rattle.edn.specs.Bytes.{is_letter, goes_on};
 ghost use Rattle.plain_events.specs.Prefixes.{IsAtomAt};
 ghost use Rattle.plain_events.specs.Keys.{mark_of, AreNameBytes, IsFurther, IsNewKeyAt};
@@ -9,16 +9,16 @@ ghost use Rattle.plain_events.specs.Keys.{mark_of, AreNameBytes, IsFurther, IsNe
 use crate::word::past_end;
 use arrayvec::ArrayVec;
 
-// A map with more keys is not read here.
+// The maximum number of marked keys of a map. A map with more of them is not read here.
 const MOST: usize = 16;
 
-/// The marks of the keys of a map, so far as it was read.
+/// The marks of the keys of a map that were read so far.
 pub type Marks = ArrayVec<u64, MOST>;
 
-// The low 56 bits are kept at each byte.
+// The modulus that keeps the low 56 bits of a mark at each byte.
 const KEPT: u64 = 1 << 56;
 
-// A number that differs for different names. Names of at most 8 bytes have different ones, and hardly ever do longer ones share theirs.
+// Returns the mark of a name, which is a hash. Different names of at most 8 bytes have different marks, and longer names rarely share one.
 fn mark_of(name: &[u8]) -> u64
     ensures { result ≡ mark_of name.now }
 {
@@ -43,7 +43,7 @@ fn goes_on(b: u8) -> bool
     is_letter(b) || b.is_ascii_digit() || matches!(b, b'-' | b'_' | b'?' | b'!' | b'*' | b'.')
 }
 
-// The longest prefix of bytes that a name may have, and the rest.
+// Returns the longest prefix of bytes that a name may contain, and the rest of `text`.
 fn name_bytes(text: &[u8]) -> (&[u8], &[u8])
     ensures whole { text.now ≡ result.0.now ++ result.1.now }
     ensures inside { AreNameBytes result.0.now }
@@ -55,7 +55,7 @@ fn name_bytes(text: &[u8]) -> (&[u8], &[u8])
     text.split_at(n)
 }
 
-/// The name of a keyword, and what follows it and the white space behind it; or none, which says nothing.
+/// Reads a keyword. Returns its name, and the text after the keyword and its white space. `None` proves nothing about the text.
 pub fn keyword_at(text: &[u8]) -> Option<(&[u8], &[u8])>
     ensures { IfSome result (λ x. IsAtomAt text.now (keyword x.0.now) x.1.now) }
 {
@@ -83,7 +83,7 @@ fn is_among(marks: &[u64], mark: u64) -> bool
     false
 }
 
-// Puts the mark behind the others, if it is none of them and there is room.
+// Appends the mark, if `marks` does not contain it and has room.
 fn put_mark(marks: &mut Marks, mark: u64) -> Option<()>
     ensures new { IfSome result (λ x. ¬ Contains marks.old.items mark) }
     ensures put { IfSome result (λ x. marks.new.items ≡ marks.old.items ++ mark ∷ []) }
@@ -95,8 +95,8 @@ fn put_mark(marks: &mut Marks, mark: u64) -> Option<()>
     Some(())
 }
 
-/// The rest after a key that differs from those with these marks, and the white space behind it; or none, which says nothing. Its mark is
-/// put behind them.
+/// Reads a key whose mark is not in `marks`, and adds its mark. Returns the text after the key and its white space. `None` proves nothing
+/// about the text.
 pub fn past_new_key<'a>(marks: &mut Marks, text: &'a [u8]) -> Option<&'a [u8]>
     ensures { IfSome result (λ rest. (name : List ℕ)
         × IsNewKeyAt marks.old.items text.now name marks.new.items rest.now) }
@@ -106,7 +106,7 @@ pub fn past_new_key<'a>(marks: &mut Marks, text: &'a [u8]) -> Option<&'a [u8]>
     Some(rest)
 }
 
-// Whether no event is read by a key of this name.
+// Returns true only if no field of an event has this name.
 fn is_further(name: &[u8]) -> bool
     ensures { IsTrue result → IsFurther name.now }
 {
@@ -117,7 +117,8 @@ fn is_further(name: &[u8]) -> bool
         && name != b"value".as_slice()
 }
 
-/// The same of a key by which no event is read.
+/// Reads a key whose mark is not in `marks` and that is not a field of an event, and adds its mark. Returns the text after the key and its
+/// white space. `None` proves nothing about the text.
 pub fn past_further_key<'a>(marks: &mut Marks, text: &'a [u8]) -> Option<&'a [u8]>
     ensures { IfSome result (λ rest. (name : List ℕ)
         × IsNewKeyAt marks.old.items text.now name marks.new.items rest.now × IsFurther name) }

@@ -1,13 +1,14 @@
-//! Events that are spelled plainly, read from their bytes without a tree of elements between.
+//! Events with a plain spelling, read from their bytes without a tree of elements.
 //!
-//! Plain is the map of a client's operation whose keys are keywords, in any order. These are `:type`, `:process`, `:f` and `:value`;
-//! `:index`, which may be left out; and at most 16 others, which no event needs. The operation's part is nil, an integer, a vector of two
-//! or a set, its members in ascending order. The value at another key is passed over: an atom, a string, a vector, or a map whose keys are
-//! keywords, at most 16. There is only white space between. Integers have no plus, and are below 9,223,372,036,854,775,800 in size. The
-//! order in which [`map_of_event`](events::map_of_event) writes is read fastest, with an index, and with blanks and commas as it writes them.
+//! A plain event is the map of a client's operation whose keys are keywords, in any order. The keys are `:type`, `:process`, `:f` and
+//! `:value`; optionally `:index`; and at most 16 other keys, which no event needs. The part of the operation is nil, an integer, a vector
+//! of two integers, or a set whose members ascend. The values at other keys are skipped. Each is an atom, a string, a vector, or a map of
+//! at most 16 keys, which are keywords. Only white space stands between elements. Integers have no plus, and their absolute value is below
+//! 9,223,372,036,854,775,800. The fastest spelling is that of [`map_of_event`](events::map_of_event): its order with an index, and its
+//! blanks and commas.
 //!
-//! `edn::read_all` and `events::from_edn` read all other texts. If a call of this crate returns `None`, the text may still be an event: the
-//! event is not plain, or there is no memory for the members of a set.
+//! `edn::read_all` and `events::from_edn` read all other texts. If a call of this crate returns `None`, the text may still be an event. The
+//! event may not be plain, or an allocation for the members of a set may have failed.
 #![tactic(auto)]
 
 mod event;

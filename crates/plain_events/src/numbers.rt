@@ -1,6 +1,6 @@
-//! Integers of 64 bits, except for the last few of each sign.
+//! Integers of 64 bits, except for the greatest and the least few.
 ghost use Rattle.std.specs.Prelude.{◌≡◌, ◌<◌, ◌≤◌, ◌^◌, pos, neg_ℤ, IfSome};
-ghost use Rattle.edn.specs.Value.{int};
+ghost use Rattle.edn_values.specs.Value.{int};
 ghost use Rattle.edn.specs.Bytes.{is_digit};
 ghost use Rattle.edn.specs.Longest.{TakesDigit};
 ghost use Rattle.events.specs.EventMap.{number};
@@ -8,7 +8,7 @@ ghost use Rattle.plain_events.specs.Prefixes.{IsAtomAt, BeginsNumeral, IsNumeral
 
 use crate::word::past_end;
 
-// The greatest number of 63 bits that stays in 63 bits with any other last digit.
+// The greatest number of 63 bits that still fits in 63 bits after its last digit is replaced by any other digit.
 const MOST: u64 = 9_223_372_036_854_775_799;
 
 fn is_digit(b: u8) -> bool
@@ -17,7 +17,7 @@ fn is_digit(b: u8) -> bool
     b.is_ascii_digit()
 }
 
-// The number with the digit at the front added to it, and what follows that digit.
+// Reads a digit. Returns `value` with this digit written after it, and the rest of `text`.
 #[inline(always)]
 fn with_digit(value: u64, text: &[u8]) -> Option<(u64, &[u8])>
     ensures { IfSome result
@@ -34,7 +34,7 @@ fn with_digit(value: u64, text: &[u8]) -> Option<(u64, &[u8])>
     Some((10 * value + digit, rest))
 }
 
-/// The number of the digits at the front, and what follows them.
+/// Reads the digits at the beginning of `text`. Returns their number and the rest of `text`.
 #[inline(always)]
 pub fn digits(text: &[u8]) -> Option<(u64, &[u8])>
     ensures { IfSome result (λ x. BeginsNumeral text.now x.0 x.1.now) }
@@ -51,7 +51,7 @@ pub fn digits(text: &[u8]) -> Option<(u64, &[u8])>
     Some((value, rest))
 }
 
-// The number of a whole numeral, and what follows it and the white space behind it.
+// Reads a whole numeral. Returns its number, and the text after it and its white space.
 #[inline(always)]
 fn numeral(text: &[u8]) -> Option<(u64, &[u8])>
     ensures { IfSome result (λ x. IsNumeralAt text.now x.0 x.1.now) }
@@ -75,7 +75,7 @@ fn negated(size: u64) -> i64
     -(size as i64)
 }
 
-/// An integer, and what follows it and the white space behind it; or none, which says nothing.
+/// Reads an integer. Returns it, and the text after it and its white space. `None` proves nothing about the text.
 #[inline(always)]
 pub fn integer(text: &[u8]) -> Option<(i64, &[u8])>
     ensures { IfSome result (λ x. IsAtomAt text.now (int x.0) x.1.now) }
@@ -89,7 +89,7 @@ pub fn integer(text: &[u8]) -> Option<(i64, &[u8])>
     Some((plain(size), rest))
 }
 
-/// A number of 32 bits, and what follows it and the white space behind it; or none, which says nothing.
+/// Reads a number of 32 bits. Returns it, and the text after it and its white space. `None` proves nothing about the text.
 #[inline(always)]
 pub fn number(text: &[u8]) -> Option<(u32, &[u8])>
     ensures atom { IfSome result (λ x. IsAtomAt text.now (number x.0) x.1.now) }

@@ -1,7 +1,7 @@
 //! The name and the value of an operation.
 ghost use Rattle.std.specs.Prelude.{◌<◌, ◌^◌, codes, IfSome};
-ghost use Rattle.edn.specs.Value.{keyword};
-ghost use Rattle.models.specs.Names.{text_of};
+ghost use Rattle.edn_values.specs.Value.{keyword};
+ghost use Rattle.models.specs.Names.{text_of, HasText};
 ghost use Rattle.events.specs.EventMap.{number};
 ghost use Rattle.plain_events.specs.Prefixes.{IsAtomAt, IsPairAt, AreTwoAt, IsPartAt, IsValueAt};
 
@@ -20,23 +20,26 @@ macro_rules! name_at {
     }};
 }
 
-// The name of an operation.
+// Reads the name of an operation. Returns it, and the rest of `text`.
 fn name_at(text: &[u8]) -> Option<(Name, &[u8])>
-    ensures { IfSome result (λ x. IsAtomAt text.now (keyword (text_of x.0)) x.1.now) }
+    ensures atom { IfSome result (λ x. IsAtomAt text.now (keyword (text_of x.0)) x.1.now) }
+    ensures known { IfSome result (λ x. HasText x.0) }
 {
     each_name!(name_at; text)
 }
 
-/// The pair of `:f` and a name, and what follows it; or none, which says nothing.
+/// Reads the pair of `:f` and a name. Returns the name and the rest of `text`. `None` proves nothing about the text.
 #[inline(never)]
 pub fn name_pair(text: &[u8]) -> Option<(Name, &[u8])>
-    ensures { IfSome result (λ x. IsPairAt text.now (codes "f") (keyword (text_of x.0)) x.1.now) }
+    ensures pair { IfSome result
+        (λ x. IsPairAt text.now (codes "f") (keyword (text_of x.0)) x.1.now) }
+    ensures known { IfSome result (λ x. HasText x.0) }
 {
     let value = past_keyword(text, "f")?;
     name_at(value)
 }
 
-// Two integers behind an opening bracket, up to the closing one.
+// Reads two integers and the closing bracket. Returns the integers and the rest of the text.
 fn two(inner: &[u8]) -> Option<(i64, i64, &[u8])>
     ensures { IfSome result (λ x. AreTwoAt inner.now x.0 x.1 x.2.now) }
 {
@@ -46,7 +49,7 @@ fn two(inner: &[u8]) -> Option<(i64, i64, &[u8])>
     Some((a, b, rest))
 }
 
-/// The part of an operation: nil, an integer, a vector of two or a set.
+/// Reads the part of an operation: nil, an integer, a vector of two integers, or a set. Returns it and the rest of `text`.
 pub fn part_at(alloc: Global, text: &[u8]) -> Option<(Part, &[u8])>
     ensures { IfSome result (λ x. IsPartAt text.now x.0 x.1.now) }
 {
@@ -64,7 +67,7 @@ pub fn part_at(alloc: Global, text: &[u8]) -> Option<(Part, &[u8])>
     Some((Part::Int(a), rest))
 }
 
-// A key, and what follows it and the white space behind it.
+// Reads a key. Returns it, and the text after it and its white space.
 fn key_at(text: &[u8]) -> Option<(Key, &[u8])>
     ensures atom { IfSome result (λ x. IsAtomAt text.now (number x.0) x.1.now) }
     ensures below { IfSome result (λ x. x.0 < 2 ^ 16) }
@@ -74,8 +77,8 @@ fn key_at(text: &[u8]) -> Option<(Key, &[u8])>
     Some((key, rest))
 }
 
-/// The pair of `:value` and a vector of a key and a part, and what follows it; or none, which says nothing. Memory is taken
-/// for the members of a set alone.
+/// Reads the pair of `:value` and a vector of a key and a part. Returns the key, the part and the rest of `text`. `None` proves nothing
+/// about the text. Allocates only for the members of a set.
 #[inline(never)]
 pub fn value_pair(alloc: Global, text: &[u8]) -> Option<(Key, Part, &[u8])>
     ensures { IfSome result (λ x. IsValueAt text.now x.0 x.1 x.2.now) }

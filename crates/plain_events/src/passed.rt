@@ -1,4 +1,4 @@
-//! Values of keys that an event is not read by, which are passed over.
+//! Values of keys that no event needs. They are skipped.
 ghost use Rattle.std.specs.Prelude.{◌∷◌, IfSome};
 ghost use Rattle.plain_events.specs.Passed.{IsPassedAt, IsScalarAt};
 
@@ -8,7 +8,7 @@ use crate::strings::past_string;
 use crate::word::{past_byte, past_bytes, past_white, past_word};
 use edn::MAX_OPEN;
 
-// The rest after an atom or a string, and the white space behind it; or none, which says nothing.
+// Skips an atom or a string. Returns the text after it and its white space. `None` proves nothing about the text.
 fn past_scalar(text: &[u8]) -> Option<&[u8]>
     ensures { IfSome result (λ rest. IsScalarAt text.now rest.now) }
 {
@@ -24,7 +24,7 @@ fn past_scalar(text: &[u8]) -> Option<&[u8]>
     past_word_or_integer(text)
 }
 
-// The same of nil, true, false and an integer.
+// Skips nil, true, false or an integer. Returns the text after it and its white space. `None` proves nothing about the text.
 fn past_word_or_integer(text: &[u8]) -> Option<&[u8]>
     ensures { IfSome result (λ rest. IsScalarAt text.now rest.now) }
 {
@@ -41,8 +41,8 @@ fn past_word_or_integer(text: &[u8]) -> Option<&[u8]>
     Some(rest)
 }
 
-/// The rest after a value, and the white space behind it, while `depth` collections are open; or none, which says nothing. It is an atom, a
-/// string, a vector, or a map whose keys are keywords. Costs one pass over it.
+/// Skips a value inside `depth` open collections: an atom, a string, a vector, or a map whose keys are keywords. Returns the text after the
+/// value and its white space. `None` proves nothing about the text. Costs one pass over the value.
 #[cycle(values)]
 pub fn past_value(depth: u8, text: &[u8]) -> Option<&[u8]>
     ensures { IfSome result (λ rest. IsPassedAt depth text.now rest.now) }
@@ -56,7 +56,8 @@ pub fn past_value(depth: u8, text: &[u8]) -> Option<&[u8]>
     past_scalar(text)
 }
 
-// The same of a vector, behind its opening bracket.
+// Skips the elements of a vector, whose opening bracket was read. Returns the text after the closing bracket and its white space. `None`
+// proves nothing about the text.
 #[cycle(values)]
 fn past_elements(depth: u8, inner: &[u8]) -> Option<&[u8]>
     ensures { IfSome result (λ rest. IsPassedAt depth (91 ∷ inner.now) rest.now) }
@@ -73,7 +74,8 @@ fn past_elements(depth: u8, inner: &[u8]) -> Option<&[u8]>
     }
 }
 
-// The same of a map, behind its opening brace.
+// Skips the pairs of a map, whose opening brace was read. Returns the text after the closing brace and its white space. `None` proves
+// nothing about the text.
 #[cycle(values)]
 fn past_pairs(depth: u8, inner: &[u8]) -> Option<&[u8]>
     ensures { IfSome result (λ rest. IsPassedAt depth (123 ∷ inner.now) rest.now) }

@@ -1,9 +1,9 @@
-//! Runs of bytes, compared several at a time.
+//! Comparisons of several bytes at once.
 ghost use Rattle.std.specs.Prelude.{◌≡◌, ◌++◌, IfSome};
 
 use crate::word::past_bytes;
 
-// The rest after these eight bytes at the beginning, which are compared as one number; or none.
+// Returns the rest of `text` after these eight bytes, or `None` if it does not begin with them. Compares them as one number.
 #[inline(always)]
 fn past_eight(text: &[u8], bytes: [u8; 8]) -> Option<&[u8]>
     ensures { IfSome result (λ rest. text.now ≡ bytes ++ rest.now) }
@@ -18,7 +18,7 @@ fn past_eight(text: &[u8], bytes: [u8; 8]) -> Option<&[u8]>
     Some(rest)
 }
 
-// The same of four bytes.
+// Returns the rest of `text` after these four bytes, or `None` if it does not begin with them. Compares them as one number.
 #[inline(always)]
 fn past_four(text: &[u8], bytes: [u8; 4]) -> Option<&[u8]>
     ensures { IfSome result (λ rest. text.now ≡ bytes ++ rest.now) }
@@ -33,7 +33,7 @@ fn past_four(text: &[u8], bytes: [u8; 4]) -> Option<&[u8]>
     Some(rest)
 }
 
-// The rest after these bytes at the beginning, which are fewer than eight; or none.
+// Returns the rest of `text` after `run`, which has fewer than eight bytes, or `None` if it does not begin with `run`.
 #[inline(always)]
 fn past_few<'a>(text: &'a [u8], run: &[u8]) -> Option<&'a [u8]>
     ensures { IfSome result (λ rest. text.now ≡ run.now ++ rest.now) }
@@ -45,7 +45,7 @@ fn past_few<'a>(text: &'a [u8], run: &[u8]) -> Option<&'a [u8]>
     past_bytes(behind, more)
 }
 
-/// The rest after these bytes at the beginning; or none. It compares eight bytes at a time.
+/// Returns the rest of `text` after `run`, or `None` if it does not begin with `run`. Compares eight bytes at a time.
 #[inline(always)]
 pub fn past_run<'a>(text: &'a [u8], run: &[u8]) -> Option<&'a [u8]>
     ensures { IfSome result (λ rest. text.now ≡ run.now ++ rest.now) }

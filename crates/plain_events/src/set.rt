@@ -1,4 +1,4 @@
-//! Sets of integers that are written in ascending order.
+//! Sets of integers in ascending order.
 ghost use Rattle.std.specs.Prelude.{IfSome};
 ghost use Rattle.values.specs.Members.{IsAscending};
 ghost use Rattle.plain_events.specs.Prefixes.{AreIntegersAt, IsSetAt};
@@ -8,7 +8,7 @@ use crate::word::{past_byte, past_bytes, past_white};
 use std::alloc::Global;
 use values::Members;
 
-// The integers at the front, each greater than the one before it, and what follows them.
+// Reads integers, each greater than the one before it. Returns them and the rest of `text`.
 #[inline(never)]
 fn ascending(alloc: Global, text: &[u8]) -> Option<(Vec<i64>, &[u8])>
     ensures integers { IfSome result (λ x. AreIntegersAt text.now x.0.items x.1.now) }
@@ -35,8 +35,8 @@ fn ascending(alloc: Global, text: &[u8]) -> Option<(Vec<i64>, &[u8])>
     Some((integers, rest))
 }
 
-/// A set of integers in ascending order, none of them twice, and the rest after it and the white space behind it. It returns none, which
-/// says nothing, also if there is no memory for the members. Costs one pass over them.
+/// Reads a set of integers in strictly ascending order. Returns it, and the text after it and its white space. `None` proves nothing about
+/// the text, and is also the result of a failed allocation. Costs one pass over the members.
 pub fn set_at(alloc: Global, text: &[u8]) -> Option<(Members, &[u8])>
     ensures { IfSome result (λ x. IsSetAt text.now x.0 x.1.now) }
 {

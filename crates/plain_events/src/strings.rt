@@ -1,4 +1,4 @@
-//! Strings that are passed over.
+//! Strings that are skipped.
 ghost use Rattle.std.specs.Prelude.{◌≡◌, ℕ, ◌<◌, ◌++◌, IfSome};
 ghost use Rattle.edn.specs.Bytes.{IsEscape, SpellsByte};
 ghost use Rattle.plain_events.specs.Passed.{ends_run, IsRun, IsStringAt};
@@ -12,7 +12,7 @@ fn ends_run(b: u8) -> bool
     b == b'"' || b == b'\\'
 }
 
-// The bytes at the front up to a quote, a backslash or the end, which spell themselves, and what follows them.
+// Returns the bytes before the first quote or backslash, which spell themselves, and the rest of `text`.
 fn run_at(text: &[u8]) -> (&[u8], &[u8])
     ensures whole { text.now ≡ result.0.now ++ result.1.now }
     ensures inside { IsRun result.0.now }
@@ -24,7 +24,7 @@ fn run_at(text: &[u8]) -> (&[u8], &[u8])
     text.split_at(n)
 }
 
-// The byte that a backslash and this letter spell.
+// Returns the byte that a backslash and `letter` spell, if they spell one.
 fn unescaped(letter: u8) -> Option<u8>
     ensures { IfSome result (λ b. IsEscape letter b × (b < 128)) }
 {
@@ -38,7 +38,7 @@ fn unescaped(letter: u8) -> Option<u8>
     }
 }
 
-// The rest after a backslash at the beginning and the letter behind it; or none.
+// Returns the rest of `text` after a backslash and its letter, or `None` if it does not begin with an escape.
 fn past_escape(text: &[u8]) -> Option<&[u8]>
     ensures { IfSome result (λ rest. (b : ℕ) × SpellsByte text.now b rest.now × (b < 128)) }
 {
@@ -48,8 +48,8 @@ fn past_escape(text: &[u8]) -> Option<&[u8]>
     Some(rest)
 }
 
-/// The rest after the closing quote of a string, whose inside is at the beginning; or none, which says nothing. Costs one pass over the
-/// string.
+/// Skips the inside of a string and its closing quote. Returns the rest of `text`. `None` proves nothing about the text. Costs one pass
+/// over the string.
 pub fn past_string(text: &[u8]) -> Option<&[u8]>
     ensures { IfSome result (λ rest. IsStringAt text.now rest.now) }
 {

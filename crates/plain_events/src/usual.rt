@@ -1,5 +1,7 @@
-//! The event that is written as [`map_of_event`](events::map_of_event) does, with its index: the bytes between its numbers are read at once.
+//! Events in the usual spelling, which is that of [`map_of_event`](events::map_of_event) with an index. The bytes between two numbers are
+//! compared at once.
 ghost use Rattle.std.specs.Prelude.{◌≡◌, ◌<◌, ◌^◌, ◌++◌, Some, IfSome};
+ghost use Rattle.models.specs.Names.{HasText};
 ghost use Rattle.plain_events.specs.Prefixes.{AreUsualAt};
 ghost use Rattle.plain_events.specs.Usual.{between_index_and_process, between_process_and_key, IsHeadAt, IsTailAt, IsPartBehind, IsUsualMapAt};
 
@@ -11,7 +13,7 @@ use events::EventKind;
 use models::{Key, Name, Op, Part, each_name};
 use std::alloc::Global;
 
-// The type of the event, between its index and the number of its process.
+// Reads the bytes between an event's index and its process. Returns the type, and the rest of `text`.
 #[inline(always)]
 fn kind_between(text: &[u8]) -> Option<(EventKind, &[u8])>
     ensures { IfSome result (λ x. text.now ≡ between_index_and_process x.0 ++ x.1.now) }
@@ -38,15 +40,16 @@ macro_rules! name_between {
     }};
 }
 
-// The name of the operation, between the number of the process and the key.
+// Reads the bytes between an event's process and its key. Returns the name of the operation, and the rest of `text`.
 #[inline(always)]
 fn name_between(text: &[u8]) -> Option<(Name, &[u8])>
-    ensures { IfSome result (λ x. text.now ≡ between_process_and_key x.0 ++ x.1.now) }
+    ensures between { IfSome result (λ x. text.now ≡ between_process_and_key x.0 ++ x.1.now) }
+    ensures known { IfSome result (λ x. HasText x.0) }
 {
     each_name!(name_between; text)
 }
 
-// The index, the type and the process's number, and what follows its last digit.
+// Reads the index, the type and the process. Returns them, and the text after the last digit of the process.
 #[inline(always)]
 fn head(text: &[u8]) -> Option<(u32, EventKind, u32, &[u8])>
     ensures { IfSome result (λ x. IsHeadAt text.now x.0 x.1 x.2 x.3.now) }
@@ -60,7 +63,8 @@ fn head(text: &[u8]) -> Option<(u32, EventKind, u32, &[u8])>
     Some((index, kind, process, rest))
 }
 
-// The part of the operation, behind the last digit of the key, and what follows the closing bracket and the white space behind it.
+// Reads the bytes after the last digit of the key, up to the closing bracket. Returns the part of the operation, and the text after the
+// bracket and its white space.
 #[inline(always)]
 fn part_behind(alloc: Global, text: &[u8]) -> Option<(Part, &[u8])>
     ensures { IfSome result (λ x. IsPartBehind text.now x.0 x.1.now) }
@@ -74,7 +78,7 @@ fn part_behind(alloc: Global, text: &[u8]) -> Option<(Part, &[u8])>
     Some((part, rest))
 }
 
-// The name, the key and the part, behind the last digit of the process's number.
+// Reads the bytes after the last digit of the process. Returns the name, the key, the part, and the rest of `text`.
 #[inline(always)]
 fn tail(alloc: Global, text: &[u8]) -> Option<(Name, Key, Part, &[u8])>
     ensures { IfSome result (λ x. IsTailAt text.now x.0 x.1 x.2 x.3.now) }
@@ -86,8 +90,8 @@ fn tail(alloc: Global, text: &[u8]) -> Option<(Name, Key, Part, &[u8])>
     Some((name, key, part, rest))
 }
 
-/// The index, the type, the process and the operation of an event whose map is at the front, and what follows the operation's value; or
-/// none, which says nothing. Memory is taken for the members of a set alone.
+/// Reads the map of an event up to the operation's value. Returns the index, the type, the process, the operation, and the rest of `text`.
+/// `None` proves nothing about the text. Allocates only for the members of a set.
 #[inline(always)]
 pub fn usual(alloc: Global, text: &[u8]) -> Option<(u32, EventKind, u32, Op, &[u8])>
     ensures { IfSome result (λ x. IsUsualMapAt text.now x.0 x.1 x.2 x.3 x.4.now) }

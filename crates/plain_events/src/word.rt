@@ -1,6 +1,6 @@
-//! Words, and the gaps of white space behind them.
+//! Words, and the white space after them.
 ghost use Rattle.std.specs.Prelude.{◌≡◌, ◌++◌, ℕ, IfSome};
-ghost use Rattle.edn.specs.Value.{keyword};
+ghost use Rattle.edn_values.specs.Value.{keyword};
 ghost use Rattle.edn.specs.Bytes.{is_white, ends_atom, MayFollowAtom, IsKeywordText};
 ghost use Rattle.edn.specs.Text.{SkipsGap};
 ghost use Rattle.plain_events.specs.Prefixes.{IsWordAt, IsByteAt, IsAtomAt};
@@ -21,7 +21,7 @@ fn ends_atom(b: u8) -> bool
     )
 }
 
-/// The rest after the white space at the beginning.
+/// Returns the rest of `text` after the white space at its beginning.
 #[inline(always)]
 pub fn past_white(text: &[u8]) -> &[u8]
     ensures { (d : ℕ) → SkipsGap d text.now result.now }
@@ -32,7 +32,8 @@ pub fn past_white(text: &[u8]) -> &[u8]
     }
 }
 
-// The same, byte by byte. Mostly there is nothing to skip, so this is a function of its own.
+// Returns the rest of `text` after the white space at its beginning, byte by byte. It is a separate function, since there is rarely
+// anything to skip.
 #[inline(never)]
 fn past_all_white(text: &[u8]) -> &[u8]
     ensures { (d : ℕ) → SkipsGap d text.now result.now }
@@ -47,7 +48,7 @@ fn past_all_white(text: &[u8]) -> &[u8]
     rest
 }
 
-// The rest after a blank at the beginning, if there is one.
+// Returns the rest of `text` after one blank, if it begins with a blank.
 #[inline(always)]
 fn past_blank(text: &[u8]) -> &[u8]
     ensures { (d : ℕ) → SkipsGap d text.now result.now }
@@ -58,7 +59,7 @@ fn past_blank(text: &[u8]) -> &[u8]
     }
 }
 
-// The rest after the white space at the beginning, which is often one blank.
+// Returns the rest of `text` after the white space at its beginning, which is often one blank.
 #[inline(always)]
 fn past_more(text: &[u8]) -> &[u8]
     ensures { (d : ℕ) → SkipsGap d text.now result.now }
@@ -66,7 +67,7 @@ fn past_more(text: &[u8]) -> &[u8]
     past_white(past_blank(text))
 }
 
-// The rest after a line feed at the beginning, if there is one.
+// Returns the rest of `text` after one line feed, if it begins with a line feed.
 #[inline(always)]
 fn past_line_feed(text: &[u8]) -> &[u8]
     ensures { (d : ℕ) → SkipsGap d text.now result.now }
@@ -77,7 +78,7 @@ fn past_line_feed(text: &[u8]) -> &[u8]
     }
 }
 
-/// The rest after the white space at the beginning, which is often one line feed.
+/// Returns the rest of `text` after the white space at its beginning, which is often one line feed.
 #[inline(always)]
 pub fn past_lines(text: &[u8]) -> &[u8]
     ensures { (d : ℕ) → SkipsGap d text.now result.now }
@@ -85,7 +86,7 @@ pub fn past_lines(text: &[u8]) -> &[u8]
     past_white(past_line_feed(text))
 }
 
-/// The rest after the white space at the beginning, if an atom may end before it.
+/// Returns the rest of `text` after the white space at its beginning, if an atom may end before `text`.
 #[inline(always)]
 pub fn past_end(text: &[u8]) -> Option<&[u8]>
     ensures ends { IfSome result (λ rest. MayFollowAtom text.now) }
@@ -107,7 +108,7 @@ pub fn past_end(text: &[u8]) -> Option<&[u8]>
     Some(past_white(text))
 }
 
-/// The rest after these bytes at the beginning; or none.
+/// Returns the rest of `text` after `bytes`, or `None` if it does not begin with them.
 #[inline(always)]
 pub fn past_bytes<'a>(text: &'a [u8], bytes: &[u8]) -> Option<&'a [u8]>
     ensures { IfSome result (λ rest. text.now ≡ bytes.now ++ rest.now) }
@@ -126,7 +127,7 @@ pub fn past_bytes<'a>(text: &'a [u8], bytes: &[u8]) -> Option<&'a [u8]>
     Some(rest)
 }
 
-/// The rest after a whole word of these bytes, and the white space behind it; or none, which says nothing.
+/// Returns the rest of `text` after the whole word and its white space. `None` proves nothing about the text.
 #[inline(always)]
 pub fn past_word<'a>(text: &'a [u8], word: &[u8]) -> Option<&'a [u8]>
     ensures { IfSome result (λ rest. IsWordAt text.now word.now rest.now) }
@@ -135,7 +136,7 @@ pub fn past_word<'a>(text: &'a [u8], word: &[u8]) -> Option<&'a [u8]>
     past_end(behind)
 }
 
-/// The rest after this byte, and the white space behind it; or none, which says nothing.
+/// Returns the rest of `text` after `byte` and its white space. `None` proves nothing about the text.
 #[inline(always)]
 pub fn past_byte(text: &[u8], byte: u8) -> Option<&[u8]>
     ensures { IfSome result (λ rest. IsByteAt text.now byte rest.now) }
@@ -147,7 +148,7 @@ pub fn past_byte(text: &[u8], byte: u8) -> Option<&[u8]>
     Some(past_white(behind))
 }
 
-/// The rest after the keyword of this name, and the white space behind it; or none, which says nothing.
+/// Returns the rest of `text` after the keyword `name` and its white space. `None` proves nothing about the text.
 #[inline(always)]
 pub fn past_keyword<'a>(text: &'a [u8], name: &str) -> Option<&'a [u8]>
     requires { IsKeywordText name.now }

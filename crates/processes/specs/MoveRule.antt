@@ -1,4 +1,4 @@
--- Promise: the process rule (the Jepsen documentation), over what processes do, in order. c is the concurrency
+-- Promise: the process rule (the Jepsen documentation), for the moves of processes in order. c is the concurrency
 use Rattle.std.specs.Prelude.{◌≡◌, ℕ, ◌+◌, ◌*◌, ◌%◌, ◌≤◌, Bool, true, false, ◌==◌, Option, Some, None, List, [], ◌∷◌, ◌++◌, count_by, if◌then◌else◌}
 use Rattle.std.specs.Option.{option_or, option_map_or}
 use Rattle.edn.specs.declared.refusal.Refusal.{Refusal}
@@ -48,14 +48,14 @@ last_move_of (m ∷ moves) p = option_or (last_move_of moves p) (if p == process
 abbrev pub is_busy : List Move → ℕ → Bool
 is_busy moves p = option_map_or is_invocation (last_move_of moves p) false
 
--- which move may come: the current process of a thread invokes if it is not busy, and what a process completes, or
--- crashes in, is its open operation
+-- the moves that may come next: the current process of a thread invokes if it is not busy, and a process completes, or crashes in, its open
+-- operation
 abbrev pub MayMove : ℕ → List Move → Move → Type 0
 MayMove c moves (Invokes p) = IsCurrent c moves p × (is_busy moves p ≡ false)
 MayMove c moves (Completes p) = is_busy moves p ≡ true
 MayMove c moves (Crashes p) = is_busy moves p ≡ true
 
--- how a move breaks the rule, in the order of the tests
+-- the ways in which a move breaks the rule, in the order of the tests
 abbrev pub RefusesMove : ℕ → List Move → Move → Refusal → Type 0
 RefusesMove c moves (Invokes p) WrongProcess = ¬ IsCurrent c moves p
 RefusesMove c moves (Invokes p) Busy = IsCurrent c moves p × (is_busy moves p ≡ true)
@@ -65,11 +65,11 @@ RefusesMove c moves (Completes p) _ = ⊥
 RefusesMove c moves (Crashes p) NotOpen = is_busy moves p ≡ false
 RefusesMove c moves (Crashes p) _ = ⊥
 
--- each move may come after those before it
+-- each move may come after the moves before it
 abbrev pub FollowMoveRule : ℕ → List Move → Type 0
 FollowMoveRule c moves = (before after : List Move) (m : Move) → moves ≡ before ++ m ∷ after → MayMove c before m
 
--- the process does none of the moves
+-- the process makes none of the moves
 abbrev pub StaysStill : ℕ → List Move → Type 0
 StaysStill p moves = last_move_of moves p ≡ None
 

@@ -1,5 +1,5 @@
 //! The process rule of the Jepsen documentation (<https://github.com/jepsen-io/jepsen>): the current process of each thread, and whether it
-//! is busy.
+//! has an open operation.
 //!
 //! A call allocates only if its result can be `AllocError`, or a refusal because memory ran out.
 #![tactic(auto)]

@@ -8,7 +8,7 @@ use edn::Refusal;
 use std::alloc::{AllocError, Global};
 use std::marker::Model;
 
-/// The most threads.
+/// The maximum number of threads.
 pub const MOST_THREADS: u32 = 64;
 
 /// A thread: its current process, and whether that process has an open operation.
@@ -19,7 +19,7 @@ pub struct Thread {
 }
 
 impl Thread {
-    // A thread with this current process, which has no open operation.
+    // Returns a thread whose current process is `process` and has no open operation.
     fn idle(process: u32) -> Thread
         ensures { result ≡ record { process = process; busy = false } }
     {
@@ -30,8 +30,9 @@ impl Thread {
     }
 }
 
-/// The threads of a history, 1 to 64 of them, numbered from 0. The thread of process p is p modulo their number. The
-/// current process of a thread is at first its own number; if it crashes, the next is greater by their number.
+/// The threads of a history: 1 to 64, numbered from 0. The thread of process p is p modulo the number of threads. At first the current
+/// process of a thread has the thread's number. If this process crashes, the next one has a number that is greater by the number of
+/// threads.
 #[derive(Drop)]
 pub struct Threads {
     threads: Vec<Thread>,
@@ -50,10 +51,10 @@ impl Model for Threads {
 }
 
 impl Threads {
-    /// Threads 0 to `concurrency` - 1, before any move. It costs O(threads).
+    /// Returns the threads 0 to `concurrency` - 1, before any move. Costs O(threads).
     ///
     /// # Errors
-    /// [`Refusal::BadConcurrency`] if the concurrency is not 1 to 64; else [`Refusal::NoMemory`] if an allocation fails.
+    /// [`Refusal::BadConcurrency`] if `concurrency` is not 1 to 64; otherwise [`Refusal::NoMemory`] if an allocation fails.
     pub fn new(alloc: Global, concurrency: u32) -> Result<Threads, Refusal>
         ensures limits { OnOk result (IsConcurrency concurrency) }
         ensures number { IfOk result (λ threads. length threads ≡ concurrency) }
@@ -67,7 +68,7 @@ impl Threads {
         Ok(Threads { threads })
     }
 
-    /// The process that the thread's next invocation must name.
+    /// Returns the process that the next invocation of the thread must name.
     pub fn current(&self, thread: u32) -> u32
         requires { thread < length self.now }
         ensures current { (moves : List Move) → StandAfter self.now moves →
@@ -77,11 +78,10 @@ impl Threads {
         self.threads[thread as usize].process
     }
 
-    /// Whether the process may invoke an operation. Takes no memory.
+    /// Tests whether the process may invoke an operation. Does not allocate.
     ///
     /// # Errors
-    /// [`Refusal::WrongProcess`] if it is not its thread's current one; else [`Refusal::Busy`] if it has an open
-    /// operation.
+    /// [`Refusal::WrongProcess`] if it is not the current process of its thread; otherwise [`Refusal::Busy`] if it has an open operation.
     pub fn may_invoke(&self, process: u32) -> Result<(), Refusal>
         ensures ok { OnOk result (Allows self.now (Invokes process)) }
         ensures refused { IfErr result (Forbids self.now (Invokes process)) }
@@ -96,7 +96,7 @@ impl Threads {
         Ok(())
     }
 
-    /// Whether the process may complete an operation, or crash in one. Takes no memory.
+    /// Tests whether the process may complete an operation, or crash in one. Does not allocate.
     ///
     /// # Errors
     /// [`Refusal::NotOpen`] if the process has no open operation.
@@ -113,7 +113,7 @@ impl Threads {
         Ok(())
     }
 
-    /// The process invokes an operation. Takes no memory.
+    /// Moves the process to an open operation, which it invokes. Does not allocate.
     ///
     /// # Errors
     /// Those of [`may_invoke`](Threads::may_invoke); the threads are then as before.
@@ -132,7 +132,7 @@ impl Threads {
         Ok(())
     }
 
-    /// The process completes its operation. Takes no memory.
+    /// Completes the open operation of the process. Does not allocate.
     ///
     /// # Errors
     /// Those of [`may_complete`](Threads::may_complete); the threads are then as before.
@@ -148,7 +148,7 @@ impl Threads {
         Ok(())
     }
 
-    /// The process crashes in its operation, and its thread continues with another process. Takes no memory.
+    /// Crashes the process in its open operation. Its thread continues with another process. Does not allocate.
     ///
     /// # Errors
     /// Those of [`may_complete`](Threads::may_complete); the threads are then as before.
@@ -166,7 +166,7 @@ impl Threads {
         Ok(())
     }
 
-    // The thread of a process.
+    // Returns the thread of a process.
     fn thread_of(&self, process: u32) -> usize
         ensures value { result ≡ process % length self.now }
         ensures within { result < length self.now }
@@ -175,7 +175,7 @@ impl Threads {
     }
 }
 
-// The threads before any move.
+// Returns the threads before any move.
 fn threads_of(alloc: Global, concurrency: u32) -> Result<Vec<Thread>, AllocError>
     ensures number { IfOk result (λ threads. length threads.items ≡ concurrency) }
     ensures each { IfOk result (λ threads. (t : ℕ) → t < concurrency →

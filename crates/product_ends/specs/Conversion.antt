@@ -5,25 +5,25 @@ use Rattle.models.specs.declared.finding.Found.{Found}
 use Rattle.interner.specs.Numbers.{IsSlot}
 use Rattle.products.specs.Products.{AreIn, Has}
 
--- the rows are those that were there and those that P says
+-- `new` has the old rows and those that satisfy P
 abbrev pub HasMore : (List ℕ → Type 0) → List (List ℕ) → List (List ℕ) → Type 0
 HasMore P old new = (row : List ℕ) → Contains new row ↔ (Contains old row ⊎ P row)
 
--- the row goes on from this one by a number of each set from this place on
+-- `row` begins with `front` and continues with a number of each set from this place on
 abbrev pub GoesOn : List ℕ → ℕ → List ℕ → List ℕ → Type 0
 GoesOn sets place front row = (rest : List ℕ) × AreIn (drop place sets) rest × (front ++ rest ≡ row)
 
--- both numbers stand for the same found thing, or are zero
+-- both numbers stand for the same answer, or both are zero
 abbrev pub IsSameFound : List Found → List Found → ℕ → ℕ → Type 0
 IsSameFound founds others number other =
     (found : Option Found) × IsSlot founds number found × IsSlot others other found
 
--- each number of either set stands for the same as one of the other set
+-- each number of either set stands for the same answer as a number of the other set
 pub record IsRenumbered (founds others : List Found) (set other : ℕ) : Type 0 where
   pub each : (n : ℕ) → Has set n → (m : ℕ) × Has other m × IsSameFound founds others n m
   pub only : (m : ℕ) → Has other m → (n : ℕ) × Has set n × IsSameFound founds others n m
 
--- and the same for the first n sets
+-- each of the first n sets is renumbered
 pub record AreRenumbered (founds others : List Found) (sets new : List ℕ) (n : ℕ) : Type 0 where
   pub long : length new ≡ n
   pub each : (k : ℕ) → k < n → IsRenumbered founds others (get_or sets k 0) (get_or new k 0)

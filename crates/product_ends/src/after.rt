@@ -1,4 +1,4 @@
-//! The ends after an ok and after a fail, by those before it, as products.
+//! The computation of the ends after an ok or a fail, as products, from the ends before it.
 ghost use Rattle.std.specs.Prelude.{ℕ, List, [], OnOk};
 ghost use Rattle.std.specs.List.{filter};
 ghost use Rattle.linspec.specs.Ends.{End};
@@ -12,8 +12,8 @@ use products::{Products, Scratch, take_marked};
 use std::alloc::AllocError;
 use std::hash::Hash;
 
-/// Replaces the products by those that an ok leaves: for the ends that have the operation with a fitting answer the products, without the
-/// operation's set. None if it is not open. Costs O(products).
+/// Replaces `left` by the products after an ok. These are the products of the ends that contain the operation with a fitting answer,
+/// without the operation's set. There are none if the operation is not open. Costs O(products).
 pub fn put_left_by_ok<S: Hash + Drop>(
     table: &Table<S>,
     all: &Products,
@@ -30,12 +30,12 @@ pub fn put_left_by_ok<S: Hash + Drop>(
         Some(call) if call < all.places() => {
             mark_fitting(&table.founds, returning.answer, marks)?;
             take_marked(left, all, call + 1, marks, scratch)?;
-            // It says that no row is in two of them.
+            // The clauses of `rows` say that no row is in two products.
             let _rows = left.rows();
             Ok(())
         }
         _ => {
-            // It says that each row has this number of numbers.
+            // The clauses of `rows` say that each row has this length.
             let _rows = all.rows();
             left.restart(0);
             Ok(())
@@ -43,8 +43,8 @@ pub fn put_left_by_ok<S: Hash + Drop>(
     }
 }
 
-/// Replaces the products by those that a fail of the open operation leaves: for the ends that do not have the operation the products,
-/// without the operation's set. None if it is not open. Costs O(products).
+/// Replaces `left` by the products after a fail of the open operation `id`. These are the products of the ends that do not contain the
+/// operation, without the operation's set. There are none if the operation is not open. Costs O(products).
 pub fn failed<S: Hash + Drop>(
     table: &Table<S>,
     kept: &Products,
@@ -61,12 +61,12 @@ pub fn failed<S: Hash + Drop>(
     match place_of_open(calls, id) {
         Some(call) if call < kept.places() => {
             take_marked(left, kept, call + 1, &[true], scratch)?;
-            // It says that no row is in two of them.
+            // The clauses of `rows` say that no row is in two products.
             let _rows = left.rows();
             Ok(())
         }
         _ => {
-            // It says that each row has this number of numbers.
+            // The clauses of `rows` say that each row has this length.
             let _rows = kept.rows();
             left.restart(0);
             Ok(())

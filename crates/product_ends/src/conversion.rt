@@ -1,4 +1,4 @@
-//! Rows as products, and products as rows.
+//! Conversions of rows into products, and of products into rows.
 ghost use Rattle.std.specs.Prelude.{◌≡◌, ◌≢◌, ◌↔◌, ◌<◌, ◌+◌, ◌∷◌, ◌++◌, true, ℕ, List, [], IfOk, IfSome, OnOk, length, get_or};
 ghost use Rattle.std.specs.List.{Contains};
 ghost use Rattle.events.specs.Events.{IsPrefixOf};
@@ -13,14 +13,14 @@ ghost use Rattle.product_ends.specs.Transitions.{IsAlone};
 
 use ends::{PendingOp, Table};
 use interner::{FoundTable, States, founds, states};
-use models::SeqObject;
+use objects::Specification;
 use products::number_set::{HIGH, has, singleton, union};
 use products::{Products, Scratch};
 use rows::RowSet;
 use std::alloc::{AllocError, Global};
 use std::hash::Hash;
 
-// Writes the sets of a row: each has the row's number alone.
+// Overwrites `sets` with the sets of a row, each of which has one number of the row.
 fn set_alone(row: &[usize], sets: &mut Vec<u64>) -> Result<(), AllocError>
     requires { 0 < length row.now }
     ensures long { OnOk result (length sets.new.items + 1 ≡ length row.now) }
@@ -34,8 +34,8 @@ fn set_alone(row: &[usize], sets: &mut Vec<u64>) -> Result<(), AllocError>
     Ok(())
 }
 
-/// The rows of the table, each as a product of its own with `places` sets. `None` if a row has another length. `AllocError` if there is no
-/// memory for the products, or a number has more than 63 bits. Costs O(rows²).
+/// Returns the rows of the table, each as a product of its own with `places` sets. `None` if a row has another length. `AllocError` if an
+/// allocation fails, or a number has more than 63 bits. Costs O(rows²).
 pub fn as_products<S: Hash + Drop>(
     table: &Table<S>,
     places: usize,
@@ -56,12 +56,12 @@ pub fn as_products<S: Hash + Drop>(
         set_alone(&row, &mut scratch.sets)?;
         products.put(0, row[0], &scratch.sets, &mut scratch.stack)?;
     }
-    // It says that no row is in two of them.
+    // The clauses of `rows` say that no row is in two products.
     let _rows = products.rows();
     Ok(Some(products))
 }
 
-// Puts each row with these first numbers and one number of each set from this place on.
+// Adds each row that begins with `row` and goes on with one number of each set from `place` on.
 #[cycle(unfolding)]
 fn put_rows(
     rows: &mut RowSet,
@@ -88,7 +88,7 @@ fn put_rows(
     Ok(())
 }
 
-// The same, with this number at the place.
+// Adds each row that begins with `row` and `number`, which is at `place`, and goes on with one number of each later set.
 #[cycle(unfolding)]
 fn put_rows_with(
     rows: &mut RowSet,
@@ -109,7 +109,7 @@ fn put_rows_with(
     Ok(())
 }
 
-/// The rows of the products. Costs a [`RowSet::put`] for each row.
+/// Returns the rows of the products. Costs a [`RowSet::put`] for each row.
 pub fn as_rows(alloc: Global, products: &Products) -> Result<RowSet, AllocError>
     ensures rows { IfOk result (λ rows. (row : List ℕ) → Contains rows row ↔ IsInOne products.now.1 row) }
     ensures once { IfOk result (λ rows. Pairwise (λ one other. one ≢ other) rows) }
@@ -124,7 +124,8 @@ pub fn as_rows(alloc: Global, products: &Products) -> Result<RowSet, AllocError>
     Ok(rows)
 }
 
-// The set that has the new number of the answer at the old one.
+// Returns the set of a single number: the new number of the found value that has `number` in the old table. `None` if the old table has no
+// such value.
 fn renumbered_one(
     old: &FoundTable,
     new: &mut FoundTable,
@@ -144,7 +145,8 @@ fn renumbered_one(
     }
 }
 
-// The set with the new numbers of the answers at the old ones; none if one has no place among bits.
+// Returns the set of the new numbers of the found values in `set`. `None` if a number has no found value, or if one word cannot contain the
+// new numbers.
 fn renumbered_set(
     old: &FoundTable,
     new: &mut FoundTable,
@@ -172,7 +174,7 @@ fn renumbered_set(
     Ok(Some(other))
 }
 
-// Writes the sets with new numbers; false if one has none.
+// Overwrites `other` with the sets in new numbers. Returns false if a set cannot be renumbered.
 fn renumber_sets(
     old: &FoundTable,
     new: &mut FoundTable,
@@ -194,10 +196,10 @@ fn renumber_sets(
     Ok(true)
 }
 
-/// A table with the states and the answers of these products alone, and without rows, and the products by its numbers. None if a state or
-/// an answer is not in the table, or if a number above 62 would be in a set of several. Costs a copy of each product's state and of its
-/// numbers, and [`Products::put`] for each product.
-pub fn renumbered<M: SeqObject>(
+/// Returns the products in new numbers, and a table without rows, which has only the states and the found values of these products. `None`
+/// if a state or a found value is not in the table, or if a set of several numbers would contain one above 62. Costs a copy of each
+/// product's state and of its numbers, and [`Products::put`] for each product.
+pub fn renumbered<M: Specification>(
     table: &Table<M::State>,
     kept: &Products,
 ) -> Result<Option<(Table<M::State>, Products)>, AllocError>
@@ -230,7 +232,7 @@ pub fn renumbered<M: SeqObject>(
         }
         products.put(0, number, &scratch.sets, &mut scratch.stack)?;
     }
-    // It says that no row is in two of them.
+    // The clauses of `rows` say that no row is in two products.
     let _rows = products.rows();
     Ok(Some((other, products)))
 }

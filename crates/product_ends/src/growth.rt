@@ -1,4 +1,4 @@
-//! The ends that calls lead to from others, as products.
+//! The ends to which calls lead from other ends, as products.
 ghost use Rattle.std.specs.Prelude.{◌≡◌, ◌<◌, ◌+◌, ◌-◌, ◌*◌, ◌^◌, [], IfOk, OnOk, true, Some, length, slice_get};
 ghost use Rattle.models.specs.Objects.{of_table};
 ghost use Rattle.products.specs.Products.{rows_in};
@@ -10,13 +10,13 @@ use crate::target::{Target, put_widened};
 use crate::transitions::{Transition, forget, transitions_in};
 use crate::workspace::{Source, Work};
 use ends::{PendingOp, Table};
-use models::SeqObject;
+use objects::Specification;
 use products::Products;
 use products::appending::append;
 use products::number_set::{has, intersection};
 use std::alloc::AllocError;
 
-// Takes the product at this place for the source.
+// Copies the product at index `at` into `source`.
 #[inline(always)]
 fn take_source(source: &mut Source, products: &Products, at: usize) -> Result<(), AllocError>
     requires { at < length products.now.1 }
@@ -29,9 +29,10 @@ fn take_source(source: &mut Source, products: &Products, at: usize) -> Result<()
     Ok(())
 }
 
-// Adds the ends that the call at this place leads to from the source, whose place is before `growable_from`: products before that place
-// were gone through, and get no more rows. False if all rows are more than the budget.
-fn grow_at<M: SeqObject>(
+// Adds the ends to which the call at `at` leads from the source. The products before `growable_from`, the source included, were handled
+// already and get no more rows. Returns false if all rows outnumber the budget.
+fn grow_at<M: Specification>(
+    specification: M,
     table: &mut Table<M::State>,
     work: &mut Work<M::State>,
     calls: &[PendingOp],
@@ -40,15 +41,15 @@ fn grow_at<M: SeqObject>(
     budget: u32,
     applied: &mut u64,
 ) -> Result<bool, AllocError>
-    requires may_grow { MayGrow M.apply_to table.old calls.now budget work.old }
+    requires may_grow { MayGrow (M.outcomes_of specification) table.old calls.now budget work.old }
     requires source { HasSource work.old }
     requires call { at < length calls.now }
     requires place { at < length work.old.source.sets.items }
     ensures grown { IfOk result
-        (AreGrown M.apply_to table.new calls.now growable_from budget work.old.all.1 work.new applied.old applied.new) }
-    ensures reached { let object = of_table M.State M.start_state M.apply_to in OnOk result
+        (AreGrown (M.outcomes_of specification) table.new calls.now growable_from budget work.old.all.1 work.new applied.old applied.new) }
+    ensures reached { let object = of_table M.State (M.start_of specification) (M.outcomes_of specification) in OnOk result
         (StaysReached object table.old table.new calls.now work.old.all.1 work.new.all.1) }
-    ensures leads { let object = of_table M.State M.start_state M.apply_to in
+    ensures leads { let object = of_table M.State (M.start_of specification) (M.outcomes_of specification) in
         AreReached object table.old calls.now work.old.all.1
         → OnOk result (LeadsAt object table.new calls.now work.new.all.1 (product_in work.old.source) at) }
     ensures source { KeepsSource work.old work.new }
@@ -60,7 +61,7 @@ fn grow_at<M: SeqObject>(
     }
     let number = work.source.number;
     let Some(transitions) = transitions_in(&work.transitions, number, calls.len()) else {
-        // The calls were tried if the product has a row. If it has none, nothing is led to from it.
+        // The calls were tried if the product has a row. If it has no row, no call leads anywhere from it.
         return Ok(true);
     };
     match transitions[at] {
@@ -70,15 +71,25 @@ fn grow_at<M: SeqObject>(
                 place: at,
                 set: found,
             };
-            put_widened::<M>(table, work, calls, target, growable_from, budget, applied)
+            put_widened::<M>(
+                specification,
+                table,
+                work,
+                calls,
+                target,
+                growable_from,
+                budget,
+                applied,
+            )
         }
         _ => Ok(true),
     }
 }
 
-// Adds what the calls lead to from the product at this place. False if all rows are more than the budget, and then there may be
-// more to add.
-fn grow_from<M: SeqObject>(
+// Adds the ends to which the calls lead from the product at `source_index`. Returns false if all rows outnumber the budget; some ends may
+// be missing then.
+fn grow_from<M: Specification>(
+    specification: M,
     table: &mut Table<M::State>,
     work: &mut Work<M::State>,
     calls: &[PendingOp],
@@ -86,14 +97,14 @@ fn grow_from<M: SeqObject>(
     budget: u32,
     applied: &mut u64,
 ) -> Result<bool, AllocError>
-    requires may_grow { MayGrow M.apply_to table.old calls.now budget work.old }
+    requires may_grow { MayGrow (M.outcomes_of specification) table.old calls.now budget work.old }
     requires here { source_index < length work.old.all.1 }
     requires before { source_index < 2 ^ 64 - 1 }
     ensures grown { IfOk result
-        (AreGrown M.apply_to table.new calls.now (source_index + 1) budget work.old.all.1 work.new applied.old applied.new) }
-    ensures reached { let object = of_table M.State M.start_state M.apply_to in OnOk result
+        (AreGrown (M.outcomes_of specification) table.new calls.now (source_index + 1) budget work.old.all.1 work.new applied.old applied.new) }
+    ensures reached { let object = of_table M.State (M.start_of specification) (M.outcomes_of specification) in OnOk result
         (StaysReached object table.old table.new calls.now work.old.all.1 work.new.all.1) }
-    ensures closed { let object = of_table M.State M.start_state M.apply_to in
+    ensures closed { let object = of_table M.State (M.start_of specification) (M.outcomes_of specification) in
         AreReached object table.old calls.now work.old.all.1 → AreClosedTo object table.old calls.now work.old.all.1 source_index
         → IfOk result (λ within_budget. within_budget ≡ true → AreClosedTo object table.new calls.now work.new.all.1 (source_index + 1)) }
     ensures steps { TriesAtMost (length calls.now * (budget + 1 - length (rows_in work.old.all.1)))
@@ -101,15 +112,25 @@ fn grow_from<M: SeqObject>(
 {
     take_source(&mut work.source, &work.all, source_index)?;
     for at in 0..work.source.sets.len().min(calls.len()) {
-        if !grow_at::<M>(table, work, calls, at, source_index + 1, budget, applied)? {
+        if !grow_at::<M>(
+            specification,
+            table,
+            work,
+            calls,
+            at,
+            source_index + 1,
+            budget,
+            applied,
+        )? {
             return Ok(false);
         }
     }
     Ok(true)
 }
 
-// Replaces the products by the kept ones, widened. Returns false if they have more rows than the budget.
-fn begin<M: SeqObject>(
+// Replaces the products by the kept ones, widened. Returns false if their rows outnumber the budget.
+fn begin<M: Specification>(
+    specification: M,
     table: &mut Table<M::State>,
     kept: &Products,
     work: &mut Work<M::State>,
@@ -117,9 +138,9 @@ fn begin<M: SeqObject>(
     budget: u32,
     applied: &mut u64,
 ) -> Result<bool, AllocError>
-    requires single { HasOneOutcome M.apply_to }
-    ensures grown { IfOk result (AreGrown M.apply_to table.new calls.now 0 budget [] work.new applied.old applied.new) }
-    ensures reached { let object = of_table M.State M.start_state M.apply_to in OnOk result
+    requires single { HasOneOutcome (M.outcomes_of specification) }
+    ensures grown { IfOk result (AreGrown (M.outcomes_of specification) table.new calls.now 0 budget [] work.new applied.old applied.new) }
+    ensures reached { let object = of_table M.State (M.start_of specification) (M.outcomes_of specification) in OnOk result
         (StaysReached object table.old table.new calls.now kept.now.1 work.new.all.1) }
     ensures all { IfOk result (λ within_budget. within_budget ≡ true → LosesNoRow kept.now.1 work.new.all.1) }
     ensures steps { TriesAtMost (length calls.now * (budget + 1)) table.old table.new applied.old applied.new }
@@ -128,22 +149,32 @@ fn begin<M: SeqObject>(
     work.all.restart(kept.places());
     for at in 0..kept.len() {
         take_source(&mut work.source, kept, at)?;
-        // This place is behind all sets, so each stays as it is.
+        // This place is after all sets, so no set is replaced.
         let itself = Target {
             number: work.source.number,
             place: work.source.sets.len(),
             set: 0,
         };
-        if !put_widened::<M>(table, work, calls, itself, 0, budget, applied)? {
+        if !put_widened::<M>(
+            specification,
+            table,
+            work,
+            calls,
+            itself,
+            0,
+            budget,
+            applied,
+        )? {
             return Ok(false);
         }
     }
     Ok(true)
 }
 
-/// Adds the products to which the calls lead. Goes once through the products while they grow. Returns false if there are more rows than the
-/// budget; then some rows may be missing.
-pub fn grow<M: SeqObject>(
+/// Adds the products to which the calls lead. Goes once through the products, which grow at their end. Returns false if the rows outnumber
+/// the budget; some rows may be missing then.
+pub fn grow<M: Specification>(
+    specification: M,
     table: &mut Table<M::State>,
     kept: &Products,
     work: &mut Work<M::State>,
@@ -151,17 +182,17 @@ pub fn grow<M: SeqObject>(
     budget: u32,
     applied: &mut u64,
 ) -> Result<bool, AllocError>
-    requires single { HasOneOutcome M.apply_to }
-    ensures found { let object = of_table M.State M.start_state M.apply_to in IfOk result
+    requires single { HasOneOutcome (M.outcomes_of specification) }
+    ensures found { let object = of_table M.State (M.start_of specification) (M.outcomes_of specification) in IfOk result
         (AreFound object table.old table.new calls.now budget kept.now.1 work.new.all.1) }
     ensures steps { TriesAtMost (length calls.now * (budget + 1)) table.old table.new applied.old applied.new }
 {
-    if !begin::<M>(table, kept, work, calls, budget, applied)? {
+    if !begin::<M>(specification, table, kept, work, calls, budget, applied)? {
         return Ok(false);
     }
     let mut at = 0;
     while at < work.all.len() {
-        if !grow_from::<M>(table, work, calls, at, budget, applied)? {
+        if !grow_from::<M>(specification, table, work, calls, at, budget, applied)? {
             return Ok(false);
         }
         at += 1;

@@ -1,5 +1,7 @@
-//! Oks and fails, of ends as products.
+//! Oks and fails, on ends as products.
 ghost use Rattle.std.specs.Prelude.{◌≤◌, ◌+◌, ℕ, List, [], OnOk, length};
+ghost use Rattle.models.specs.declared.operation.Op.{Op};
+ghost use Rattle.models.specs.declared.finding.Found.{Found};
 ghost use Rattle.models.specs.Objects.{of_table};
 ghost use Rattle.linspec.specs.Ends.{End};
 ghost use Rattle.std.specs.List.{filter};
@@ -13,22 +15,22 @@ use crate::after;
 use crate::growth::grow;
 use crate::workspace::{Work, Workspace, give_back, make};
 use ends::{PendingOp, Returning, Table};
-use models::SeqObject;
+use objects::Specification;
 use products::Products;
 use std::alloc::AllocError;
 use std::hash::Hash;
 
-// Replaces the products by those that the answer leaves of the kept ends; the calls lead from these ends to no others. False if the kept
-// ends are more than the budget.
-fn settle_kept<M: SeqObject>(
-    table: &Table<M::State>,
+// Replaces `left` by the products of the kept ends that fit the answer. All calls were tried before, and lead from the kept ends to no
+// other ends. Returns false if the kept ends outnumber the budget.
+fn settle_kept<S: Hash + Drop>(
+    table: &Table<S>,
     kept: &Products,
-    work: &mut Work<M::State>,
+    work: &mut Work<S>,
     left: &mut Products,
     returning: &Returning,
 ) -> Result<bool, AllocError>
     requires { length returning.now.calls.now ≤ returning.now.tried }
-    ensures { FindsLeft (of_table M.State M.start_state M.apply_to)
+    ensures { (start : S) (outcomes : Op → S → List (S × Found)) → FindsLeft (of_table S start outcomes)
         (with_rows table.now (rows_in kept.now.1)) (with_rows table.now (rows_in left.new.1)) (asked_by returning.now) result }
 {
     if kept.rows() > returning.budget as u64 {
@@ -45,23 +47,26 @@ fn settle_kept<M: SeqObject>(
     Ok(true)
 }
 
-/// Puts the products of the ends that are left after the operation has returned into the room. These are the ends that have it with a
-/// fitting answer, each without it. False if all ends, these and what the calls lead to from them one after another, are more than the
-/// budget. This is so if each call is of another operation, and the calls that were tried already lead from the ends to no others. Each
-/// call has at most one outcome in a state. The rows of the table stay, and so do the kept products.
+/// Replaces the products of `room` by those of the ends that are left after the operation has returned. These are the ends that contain it
+/// with a fitting answer, each without it. The rows of the table and the products in `kept` do not change. Each call has at most one
+/// outcome in a state.
 ///
-/// `AllocError` if there is no memory for them: the steps that were made stay counted, and the room may have some of the products. It makes
-/// no step if all calls were tried, and then costs O(products). Else it makes at most one step for each call in each state, and compares
-/// each new product with all others. That is O(products squared) at worst, and more if they are cut into pieces.
-pub fn advance<M: SeqObject>(
+/// Returns false if all ends, including those to which the calls lead one after another, outnumber the budget. This is exact under two
+/// conditions. No two calls are of one operation; the first `tried` calls lead from the ends to no other ends.
+///
+/// `AllocError` if an allocation fails; the steps that were made are counted, and `room` may have some of the products then. If all calls
+/// were tried before, it makes no step and costs O(products). Otherwise it makes at most one step for each call in each state, and compares
+/// each new product with all others. That costs O(products²) at worst, and more if products are cut into pieces.
+pub fn advance<M: Specification>(
+    specification: M,
     table: &mut Table<M::State>,
     kept: &Products,
     room: &mut Workspace<M::State>,
     returning: &Returning,
     applied: &mut u64,
 ) -> Result<bool, AllocError>
-    requires single { HasOneOutcome M.apply_to }
-    ensures found { let object = of_table M.State M.start_state M.apply_to in
+    requires single { HasOneOutcome (M.outcomes_of specification) }
+    ensures found { let object = of_table M.State (M.start_of specification) (M.outcomes_of specification) in
         FindsLeft object (with_rows table.old (rows_in kept.now.1)) (with_rows table.new (rows_in room.new.left.1))
         (asked_by returning.now) result }
     ensures tries { OnlyTries table.old table.new applied.old applied.new }
@@ -73,9 +78,10 @@ pub fn advance<M: SeqObject>(
     };
     let work = &mut **work;
     if returning.tried >= returning.calls.len() {
-        return settle_kept::<M>(table, kept, work, &mut room.left, returning);
+        return settle_kept(table, kept, work, &mut room.left, returning);
     }
     if !grow::<M>(
+        specification,
         table,
         kept,
         work,
@@ -97,8 +103,8 @@ pub fn advance<M: SeqObject>(
     Ok(true)
 }
 
-/// Puts the products after the operation, which is open, has failed into the room, of those ends that it is not in, each without its
-/// number. Leaves no products if the operation is not open. Costs O(products).
+/// Replaces the products of `room` by those of the ends that are left after the open operation `id` has failed. These are the ends that do
+/// not contain it, each without its number. There are none if the operation is not open. Costs O(products).
 pub fn failed<S: Hash + Drop>(
     table: &Table<S>,
     kept: &Products,

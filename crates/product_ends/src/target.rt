@@ -1,4 +1,4 @@
-//! A product that is put with others, and with it what calls find that stay in its state.
+//! The addition of a product, together with the found values of calls that do not change its state.
 ghost use Rattle.std.specs.Prelude.{◌≡◌, ◌⊎◌, ℕ, List, ◌∷◌, IfOk, OnOk, true, false, length, slice_set};
 ghost use Rattle.models.specs.Objects.{of_table};
 ghost use Rattle.products.specs.Products.{AreIn, IsIn};
@@ -9,7 +9,7 @@ ghost use Rattle.product_ends.specs.Widening.{AreWidened, IsWidened, product_to}
 use crate::transitions::{Transitions, stays_in, transitions_in, try_each};
 use crate::workspace::{Source, Work};
 use ends::{PendingOp, Table};
-use models::SeqObject;
+use objects::Specification;
 use products::number_set::{has, size, union};
 use std::alloc::AllocError;
 
@@ -21,8 +21,8 @@ pub struct Target {
     pub set: u64,
 }
 
-// The set, and with it what its call would find where it leaves the state as it is (`stay`, zero if it does not). The set alone
-// where the call is in each row, or no one word has both.
+// Returns `set` with the numbers of `stay` added. `stay` has the call's found value if the call does not change the state, and is zero
+// otherwise. Returns `set` alone if each row contains the call, or if one word cannot contain both.
 #[inline(always)]
 fn widened(set: u64, stay: u64) -> u64
     ensures { IsWidened stay set result }
@@ -36,7 +36,7 @@ fn widened(set: u64, stay: u64) -> u64
     }
 }
 
-// Writes the sets, where the one at the place is another, each widened.
+// Overwrites `next` with the sets, after `set` has replaced the one at `place`. Each set is widened by its element of `stays`.
 #[inline(always)]
 fn widen(
     sets: &[u64],
@@ -66,7 +66,7 @@ fn widen(
     Ok(())
 }
 
-// Whether the product of the sets, where the one at the place is another, has a row.
+// Returns whether the product of the sets, after `set` has replaced the one at `place`, has a row.
 fn has_row(sets: &[u64], place: usize, set: u64) -> bool
     ensures some { result ≡ true → (row : List ℕ) × AreIn (slice_set sets.now place set) row }
     ensures none { result ≡ false → (row : List ℕ) → ¬ AreIn (slice_set sets.now place set) row }
@@ -80,10 +80,11 @@ fn has_row(sets: &[u64], place: usize, set: u64) -> bool
     true
 }
 
-// Sees to it that the calls were tried in the target's state. False, with nothing tried, if they were not and the target has no
-// row: then they need not be.
+// Tries the calls in the target's state, unless they were tried there before. Returns false if they were not tried and the target has no
+// row: then there is no need to try them.
 #[inline(always)]
-fn ensure_tried<M: SeqObject>(
+fn ensure_tried<M: Specification>(
+    specification: M,
     table: &mut Table<M::State>,
     transitions: &mut Transitions<M::State>,
     calls: &[PendingOp],
@@ -91,9 +92,9 @@ fn ensure_tried<M: SeqObject>(
     to: Target,
     applied: &mut u64,
 ) -> Result<bool, AllocError>
-    requires single { HasOneOutcome M.apply_to }
-    requires sound { AreSound M.apply_to table.old calls.now transitions.old }
-    ensures sound { OnOk result (AreSound M.apply_to table.new calls.now transitions.new) }
+    requires single { HasOneOutcome (M.outcomes_of specification) }
+    requires sound { AreSound (M.outcomes_of specification) table.old calls.now transitions.old }
+    ensures sound { OnOk result (AreSound (M.outcomes_of specification) table.new calls.now transitions.new) }
     ensures tried { IfOk result (AreTriedFor (product_to source.now to) transitions.old transitions.new) }
     ensures fresh { (applied.new ≡ applied.old)
         ⊎ ((¬ IsTried transitions.old to.number) × ((row : List ℕ) × IsIn (product_to source.now to) row)) }
@@ -105,14 +106,15 @@ fn ensure_tried<M: SeqObject>(
     if !has_row(&source.sets, to.place, to.set) {
         return Ok(false);
     }
-    try_each::<M>(table, transitions, to.number, calls, applied)?;
+    try_each::<M>(specification, table, transitions, to.number, calls, applied)?;
     Ok(true)
 }
 
-/// Puts the target, widened, with the others. If the calls were not tried in its state, they are now, and its rows are new; a
-/// target of such a state that has no row is not put. Products before `growable_from` were gone through, and get no more rows. False
-/// if all rows are more than the budget.
-pub fn put_widened<M: SeqObject>(
+/// Adds the widened target to the products. If the calls were not tried in the target's state, tries them first. Adds and tries nothing if
+/// the target has no row. The products before `growable_from` were handled already, and get no more rows. Returns false if all rows
+/// outnumber the budget.
+pub fn put_widened<M: Specification>(
+    specification: M,
     table: &mut Table<M::State>,
     work: &mut Work<M::State>,
     calls: &[PendingOp],
@@ -121,17 +123,18 @@ pub fn put_widened<M: SeqObject>(
     budget: u32,
     applied: &mut u64,
 ) -> Result<bool, AllocError>
-    requires may_grow { MayGrow M.apply_to table.old calls.now budget work.old }
+    requires may_grow { MayGrow (M.outcomes_of specification) table.old calls.now budget work.old }
     requires long { length work.old.source.sets.items ≡ work.old.all.0 }
     ensures grown { IfOk result
-        (AreGrown M.apply_to table.new calls.now growable_from budget work.old.all.1 work.new applied.old applied.new) }
+        (AreGrown (M.outcomes_of specification) table.new calls.now growable_from budget work.old.all.1 work.new applied.old applied.new) }
     ensures puts { OnOk result (HasRows (product_to work.old.source to) work.new.all.1) }
-    ensures reached { let object = of_table M.State M.start_state M.apply_to in OnOk result
+    ensures reached { let object = of_table M.State (M.start_of specification) (M.outcomes_of specification) in OnOk result
         (StaysReached object table.old table.new calls.now (product_to work.old.source to ∷ work.old.all.1) work.new.all.1) }
     ensures source { KeepsSource work.old work.new }
     ensures steps { TriesAtMost (length calls.now) table.old table.new applied.old applied.new }
 {
     if !ensure_tried::<M>(
+        specification,
         table,
         &mut work.transitions,
         calls,

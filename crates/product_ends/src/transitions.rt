@@ -7,22 +7,23 @@ ghost use Rattle.product_ends.specs.Transitions.{AreSound, AreStays, AreTriedToo
 use ends::{PendingOp, Table, step, told_by};
 use interner::founds::slot_at;
 use interner::states::number_of;
-use models::{Found, SeqObject};
+use models::Found;
+use objects::Specification;
 use products::number_set::singleton;
 use std::alloc::{AllocError, Global};
 
 /// The transition of a call in a state.
 #[derive(Clone, Copy)]
 pub enum Transition {
-    /// It cannot take place.
+    /// The call cannot take place.
     Nowhere,
-    /// It leads to the state with this number, and the number of its recorded answer is alone in this set.
+    /// The call leads to the state with this number. The set contains only the number of its found value.
     To(usize, u64),
 }
 
-/// The transitions of each call in the states that were tried. The order of a state is the place of its first transition plus one, or zero
-/// if the calls were not tried in the state. For each transition, `stays` has the set with the number of its answer if it stays in the
-/// state, else the empty set.
+/// The transitions of each call in the states that were tried. `order` has, for each state, the index of its first transition plus one, or
+/// zero if the calls were not tried in the state. `stays` has a set for each transition: the number of its found value if the transition
+/// does not change the state, and otherwise no number.
 #[derive(Drop)]
 pub struct Transitions<S> {
     order: Vec<usize>,
@@ -32,7 +33,7 @@ pub struct Transitions<S> {
 }
 
 impl<S> Transitions<S> {
-    /// None.
+    /// Returns a value without transitions.
     pub fn new(alloc: Global) -> Transitions<S> {
         Transitions {
             order: Vec::new(alloc),
@@ -43,7 +44,7 @@ impl<S> Transitions<S> {
     }
 }
 
-/// Forgets all, and keeps the memory. Takes constant time.
+/// Forgets all transitions, and keeps the memory. Takes constant time.
 pub fn forget<S: Drop>(transitions: &mut Transitions<S>)
     ensures none { (number : ℕ) → order_in transitions.new number ≡ 0 }
     ensures stays { (calls : ℕ) → AreStays transitions.new calls }
@@ -53,7 +54,8 @@ pub fn forget<S: Drop>(transitions: &mut Transitions<S>)
     transitions.stays.clear();
 }
 
-// The part of the list for the state with this number: for each call one, from the place before its order on.
+// Returns the part of `all` for the state `number`: `call_count` elements, the first of which is at the index that `order` has for the
+// state.
 #[inline(always)]
 fn part_in<'a, T>(
     order: &[usize],
@@ -67,7 +69,7 @@ fn part_in<'a, T>(
     ensures within { 0 < get_or order.now number 0 → get_or order.now number 0 + call_count ≤ length all.now + 1 → IsSome result }
 {
     match order.get(number) {
-        // A sum that wraps is before the first place, and then there are none.
+        // If the sum wraps, it is less than the first index, and there is no such part.
         Some(order) if *order > 0 => {
             let first = *order - 1;
             all.get(first..first.wrapping_add(call_count))
@@ -76,7 +78,7 @@ fn part_in<'a, T>(
     }
 }
 
-/// The transition of each of the call_count calls in the state with this number, if they were tried there. Takes constant time.
+/// Returns the transition of each of the `call_count` calls in the state `number`, if they were tried there. Takes constant time.
 #[inline(always)]
 pub fn transitions_in<S>(
     transitions: &Transitions<S>,
@@ -95,8 +97,8 @@ pub fn transitions_in<S>(
     )
 }
 
-/// The answer of each of the call_count calls that stays in the state with this number, as a set, if they were tried there. The set has no
-/// number if the call cannot take place, or leads to another state. Takes constant time.
+/// Returns a set for each of the `call_count` calls in the state `number`, if they were tried there. The set has the number of the found
+/// value if the call does not change the state. It has no number if the call cannot take place, or changes the state. Takes constant time.
 #[inline(always)]
 pub fn stays_in<S>(transitions: &Transitions<S>, number: usize, call_count: usize) -> Option<&[u64]>
     ensures some { IfSome result (λ those. (order : ℕ) × (order_in transitions.now number ≡ order + 1)
@@ -106,24 +108,32 @@ pub fn stays_in<S>(transitions: &Transitions<S>, number: usize, call_count: usiz
     part_in(&transitions.order, &transitions.stays, number, call_count)
 }
 
-// The transition of the call in the state with this number: one step.
-fn try_call<M: SeqObject>(
+// Returns the transition of the call in the state `number`. Takes one step.
+fn try_call<M: Specification>(
+    specification: M,
     table: &mut Table<M::State>,
     outcomes: &mut Vec<(M::State, Found)>,
     number: usize,
     call: &PendingOp,
     applied: &mut u64,
 ) -> Result<Transition, AllocError>
-    requires single { HasOneOutcome M.apply_to }
+    requires single { HasOneOutcome (M.outcomes_of specification) }
     ensures transition { IfOk result (λ transition. (s : M.State) × (slice_get table.new.states number ≡ Some s)
-        × IsTransition table.new call.now (M.apply_to call.now.op s) transition) }
+        × IsTransition table.new call.now (M.outcomes_of specification call.now.op s) transition) }
     ensures tries { OnlyTries table.old table.new applied.old applied.new }
     ensures cost { applied.new ≤ applied.old + 1 }
 {
     let Some(state) = table.states.get(number) else {
         return Err(AllocError);
     };
-    step::<M>(table.alloc, state, &call.op, outcomes, applied)?;
+    step::<M>(
+        specification,
+        table.alloc,
+        state,
+        &call.op,
+        outcomes,
+        applied,
+    )?;
     match outcomes.pop() {
         Some((state, found)) => {
             let to = number_of::<M>(&mut table.states, state)?;
@@ -134,7 +144,7 @@ fn try_call<M: SeqObject>(
     }
 }
 
-// The answer of the transition, if it stays in the state with this number, in which it is done; else no number.
+// Returns the set of the found value if the transition leads from the state `number` to the same state, and otherwise the empty set.
 #[inline(always)]
 fn stay(transition: Transition, number: usize) -> u64
     ensures { IsStay number result transition }
@@ -145,7 +155,7 @@ fn stay(transition: Transition, number: usize) -> u64
     }
 }
 
-// Notes the place of the first transition in the state with this number.
+// Stores the index of the first transition in the state `number`.
 #[inline(always)]
 fn note_order(order: &mut Vec<usize>, number: usize, first: usize) -> Result<(), AllocError>
     requires few { first < 2 ^ 63 }
@@ -160,25 +170,33 @@ fn note_order(order: &mut Vec<usize>, number: usize, first: usize) -> Result<(),
     Ok(())
 }
 
-/// Tries each call in the state with this number, and remembers what it does. `AllocError` if there is no memory for it, or no
-/// such state. Takes one step for each call.
+/// Tries each call in the state `number`, and remembers its transition. `AllocError` if an allocation fails, or if there is no such state.
+/// Takes one step for each call.
 #[inline(never)]
-pub fn try_each<M: SeqObject>(
+pub fn try_each<M: Specification>(
+    specification: M,
     table: &mut Table<M::State>,
     transitions: &mut Transitions<M::State>,
     number: usize,
     calls: &[PendingOp],
     applied: &mut u64,
 ) -> Result<(), AllocError>
-    requires single { HasOneOutcome M.apply_to }
-    ensures sound { AreSound M.apply_to table.old calls.now transitions.old
-        → OnOk result (AreSound M.apply_to table.new calls.now transitions.new) }
+    requires single { HasOneOutcome (M.outcomes_of specification) }
+    ensures sound { AreSound (M.outcomes_of specification) table.old calls.now transitions.old
+        → OnOk result (AreSound (M.outcomes_of specification) table.new calls.now transitions.new) }
     ensures tried { OnOk result (AreTriedToo number transitions.old transitions.new) }
     ensures steps { TriesAtMost (length calls.now) table.old table.new applied.old applied.new }
 {
     let before = transitions.transitions.len();
     for call in calls {
-        let transition = try_call::<M>(table, &mut transitions.outcomes, number, call, applied)?;
+        let transition = try_call::<M>(
+            specification,
+            table,
+            &mut transitions.outcomes,
+            number,
+            call,
+            applied,
+        )?;
         transitions.transitions.push(transition)?;
         transitions.stays.push(stay(transition, number))?;
     }

@@ -1,22 +1,22 @@
-//! Memory that oks and fails work in.
+//! Memory for the work of oks and fails.
 ghost use Rattle.std.specs.Prelude.{IsSome, OnOk};
 
 use crate::transitions::Transitions;
 use products::{Products, Scratch};
 use std::alloc::{AllocError, Global};
 
-// Memory for more products than these is given back after the ok.
+// The maximum number of products whose memory is kept after an ok.
 const MOST_KEPT: usize = 1024;
 
-/// The product that calls lead from: its first number and its sets.
+/// The product from which calls lead: its first number and its sets.
 #[derive(Drop)]
 pub struct Source {
     pub number: usize,
     pub sets: Vec<u64>,
 }
 
-/// Memory that an ok works in, kept for the next one. It has the transitions of calls in states, all ends as products, the one that calls lead
-/// from, the marks of fitting answers, and working sets.
+/// Memory for the work of an ok, which is kept for the next one. It has the transitions of calls in states, all ends as products, the
+/// source product, the marks of fitting answers, and working sets.
 #[derive(Drop)]
 pub struct Work<S> {
     pub transitions: Transitions<S>,
@@ -26,14 +26,14 @@ pub struct Work<S> {
     pub scratch: Scratch,
 }
 
-/// Memory that oks and fails work in, which the first of them makes, and the products that are left after one. An ok that came to
-/// its end and met more than 1,024 products gives the memory back.
+/// Memory for the work of oks and fails, and the products that result from one. The first ok or fail allocates it. An ok that completes and
+/// has met more than 1,024 products frees it.
 pub struct Workspace<S> {
     pub(crate) work: Option<Box<Work<S>>>,
     pub left: Products,
 }
 
-// So that crates above give one back by one call.
+// With this implementation, a crate above drops a workspace by one call.
 impl<S: Drop> Drop for Workspace<S> {
     fn drop(self) {
         let Workspace {
@@ -44,7 +44,7 @@ impl<S: Drop> Drop for Workspace<S> {
 }
 
 impl<S> Workspace<S> {
-    /// None yet.
+    /// Returns a workspace without memory.
     pub fn new(alloc: Global) -> Workspace<S> {
         Workspace {
             work: None,
@@ -53,7 +53,7 @@ impl<S> Workspace<S> {
     }
 }
 
-/// Makes the memory to work in, if there is none yet.
+/// Allocates the working memory, if there is none yet.
 pub fn make<S: Drop>(alloc: Global, work: &mut Option<Box<Work<S>>>) -> Result<(), AllocError>
     ensures { OnOk result (IsSome work.new) }
 {
@@ -73,7 +73,7 @@ pub fn make<S: Drop>(alloc: Global, work: &mut Option<Box<Work<S>>>) -> Result<(
     Ok(())
 }
 
-/// Gives the memory back, where it was used for many products.
+/// Frees the working memory, if it was used for many products.
 pub fn give_back<S: Drop>(work: &mut Option<Box<Work<S>>>) {
     let were_many = match work {
         Some(work) => work.all.len() > MOST_KEPT,

@@ -3,7 +3,7 @@ ghost use Rattle.std.specs.Prelude.{◌≡◌, ◌++◌, OnErr, OnOk};
 
 use std::alloc::AllocError;
 
-/// Appends a few sets to the list. `AllocError` if there is no memory for them: then the list is as it was. Costs O(sets).
+/// Appends a few sets to the list. `AllocError` if an allocation fails; the list is then as it was. Costs O(sets).
 #[inline(always)]
 pub fn append(list: &mut Vec<u64>, sets: &[u64]) -> Result<(), AllocError>
     ensures items { OnOk result (list.new.items ≡ list.old.items ++ sets.now) }

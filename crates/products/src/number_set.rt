@@ -1,16 +1,16 @@
-//! Sets of numbers, each in a word: of numbers below 63 the bits, or the highest bit and one number alone.
+//! Sets of numbers, each in one word. The word has either a bit for each number below 63, or the highest bit and a single number.
 ghost use Rattle.std.specs.Prelude.{◌≡◌, ◌↔◌, ◌⊎◌, ℕ, IsTrue, IfOk, IfSome, length};
 ghost use Rattle.products.specs.Products.{Has, numbers_of};
 
 use std::alloc::AllocError;
 
-/// The highest bit: a word below it is a set by bits.
+/// The highest bit. A word without this bit is a set by bits.
 pub const HIGH: u64 = 1 << 63;
 
-// The numbers below this one are bits.
+// Numbers below this one are bits.
 const BITS: usize = 63;
 
-/// The set of this number alone. `AllocError` if it has more than 63 bits. Takes no memory, and constant time.
+/// Returns the set of `number` alone. `AllocError` if the number has more than 63 bits. Does not allocate. Takes constant time.
 pub fn singleton(number: usize) -> Result<u64, AllocError>
     ensures { IfOk result (λ set. (n : ℕ) → Has set n ↔ (n ≡ number)) }
 {
@@ -23,7 +23,7 @@ pub fn singleton(number: usize) -> Result<u64, AllocError>
     }
 }
 
-/// Whether the set has the number. Takes constant time.
+/// Returns whether the set contains the number. Takes constant time.
 #[inline(always)]
 pub fn has(set: u64, number: usize) -> bool
     ensures { IsTrue result ↔ Has set number }
@@ -35,7 +35,7 @@ pub fn has(set: u64, number: usize) -> bool
     }
 }
 
-/// What both sets have. Takes constant time.
+/// Returns the numbers that both sets contain. Takes constant time.
 #[inline(always)]
 pub fn intersection(set: u64, other: u64) -> u64
     ensures { (n : ℕ) → Has result n ↔ (Has set n × Has other n) }
@@ -47,7 +47,7 @@ pub fn intersection(set: u64, other: u64) -> u64
     }
 }
 
-// The same, if one of them has a number alone.
+// Returns the numbers that both sets contain, if one of the sets is a single number.
 #[inline(never)]
 fn intersection_with_singleton(set: u64, other: u64) -> u64
     ensures { (n : ℕ) → Has result n ↔ (Has set n × Has other n) }
@@ -67,7 +67,7 @@ fn intersection_with_singleton(set: u64, other: u64) -> u64
     }
 }
 
-/// The numbers of the first set that the second does not have. Takes constant time.
+/// Returns the numbers of `set` that `other` does not contain. Takes constant time.
 #[inline(always)]
 pub(crate) fn difference(set: u64, other: u64) -> u64
     ensures { (n : ℕ) → Has result n ↔ (Has set n × ¬ Has other n) }
@@ -79,7 +79,7 @@ pub(crate) fn difference(set: u64, other: u64) -> u64
     }
 }
 
-// The same, if one of them has a number alone.
+// Returns the numbers of `set` that `other` does not contain, if one of the sets is a single number.
 #[inline(never)]
 fn difference_with_singleton(set: u64, other: u64) -> u64
     ensures { (n : ℕ) → Has result n ↔ (Has set n × ¬ Has other n) }
@@ -102,7 +102,8 @@ fn difference_with_singleton(set: u64, other: u64) -> u64
     }
 }
 
-/// The numbers of either set, if both are bits or they are the same. Takes constant time.
+/// Returns the numbers of either set. `None` if one word cannot contain them: one of the sets is a single number, and the sets differ.
+/// Takes constant time.
 #[inline(always)]
 pub fn union(set: u64, other: u64) -> Option<u64>
     ensures { IfSome result (λ both. (n : ℕ) → Has both n ↔ (Has set n ⊎ Has other n)) }
@@ -116,7 +117,7 @@ pub fn union(set: u64, other: u64) -> Option<u64>
     }
 }
 
-/// How many numbers the set has. Takes constant time.
+/// Returns the number of elements of the set. Takes constant time.
 #[inline(always)]
 pub fn size(set: u64) -> u64
     ensures { result ≡ length (numbers_of set) }

@@ -1,22 +1,22 @@
-//! Products of sets, by two.
+//! Comparisons of two products of sets.
 
 ghost use Rattle.std.specs.Prelude.{◌≡◌, ◌↔◌, ◌⊎◌, ◌<◌, ◌+◌, ◌-◌, ◌^◌, ℕ, List, IfSome, get_or, length, min, set};
 ghost use Rattle.products.specs.Products.{AreIn, Has, rows_of_sets};
 
 use crate::number_set::{HIGH, intersection, size, union};
 
-/// How the rows of a product overlap those of another one with the same first number.
+/// The overlap of the rows of a product with those of a second product with the same first number.
 #[derive(Clone, Copy)]
 pub enum Overlap {
-    /// No row is in both.
+    /// No row is in both products.
     Apart,
-    /// Each of its rows is in the second one.
+    /// Each row of the product is in the second one.
     Inside,
-    /// Some are in the second one and some are not, or it is not known.
+    /// Some rows are in the second product and some are not, or the overlap is not known.
     Across,
 }
 
-/// How the product of these sets overlaps that of the others.
+/// Returns how the rows of the product `sets` overlap those of the product `others`.
 #[inline(always)]
 pub fn overlap_of(sets: &[u64], others: &[u64]) -> Overlap
     requires long { length sets.now ≡ length others.now }
@@ -39,7 +39,7 @@ pub fn overlap_of(sets: &[u64], others: &[u64]) -> Overlap
     Overlap::Inside
 }
 
-// The same, if a set of them has a number alone.
+// Returns how the rows of the product `sets` overlap those of the product `others`, if one of their sets is a single number.
 #[inline(never)]
 fn overlap_with_singleton(sets: &[u64], others: &[u64]) -> Overlap
     requires long { length sets.now ≡ length others.now }
@@ -61,7 +61,8 @@ fn overlap_with_singleton(sets: &[u64], others: &[u64]) -> Overlap
     }
 }
 
-/// Where these sets differ from the others, if that is at one place, and what one of both has there.
+/// Returns the place at which `sets` and `others` differ, and the union of their sets there. `None` if they differ at more than one place
+/// or nowhere, or if one word cannot contain the union.
 #[inline(always)]
 pub fn joined_at(sets: &[u64], others: &[u64]) -> Option<(usize, u64)>
     requires long { length sets.now ≡ length others.now }
@@ -92,7 +93,7 @@ pub fn joined_at(sets: &[u64], others: &[u64]) -> Option<(usize, u64)>
     }
 }
 
-/// How many rows the product has, or the greatest u64 if it has more.
+/// Returns the number of rows of the product, or `u64::MAX` if there are more.
 #[inline(always)]
 pub fn rows_of(sets: &[u64]) -> u64
     ensures { result ≡ min (length (rows_of_sets sets.now)) (2 ^ 64 - 1) }

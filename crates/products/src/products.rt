@@ -1,4 +1,4 @@
-//! Products without a common row.
+//! Lists of products that have no common row.
 ghost use Rattle.std.specs.Prelude.{◌≡◌, ◌↔◌, ◌⊎◌, ◌<◌, ◌≤◌, ◌+◌, ◌-◌, ◌^◌, ◌++◌, ◌∷◌, [], ℕ, List, Some, None, true, IfOk, IfSome, OnErr, OnOk, length, min, map, drop, take, slice_get, slice_index, slice_set};
 ghost use Rattle.products.specs.Products.{AreApart, AreIn, Has, HasWith, HavePlaces, IsIn, IsInAt, IsInOne, IsPiece, Product, Puts, rows_in, rows_of_sets};
 
@@ -9,8 +9,8 @@ use std::alloc::{AllocError, Global};
 use std::marker::Model;
 use std::mem::swap;
 
-/// Products of sets of numbers. Each has a first number, and a set of numbers for each place after it. It contains each row with this first
-/// number and one number of the set at each place. No row is in two of them.
+/// Products of sets of numbers. Each product has a first number, and a set of numbers for each place after it. It contains each row with
+/// this first number and one number of the set at each place. No row is in two products.
 pub struct Products {
     places: usize,
     rows: u64,
@@ -31,7 +31,7 @@ impl Model for Products {
         × (a.rows ≡ min (length (rows_in (laid_out a.places a.firsts.items a.words.items))) (2 ^ 64 - 1)) };
 }
 
-// So that crates above give one back by one call.
+// With this implementation, a crate above drops the products by one call.
 impl Drop for Products {
     fn drop(self) {
         let Products {
@@ -44,7 +44,7 @@ impl Drop for Products {
 }
 
 impl Products {
-    /// None, of rows with `places` numbers after the first.
+    /// Returns a list without products. Its rows will have `places` numbers after the first one.
     pub fn new(alloc: Global, places: usize) -> Products
         ensures { result ≡ (places, []) }
     {
@@ -56,7 +56,7 @@ impl Products {
         }
     }
 
-    /// Takes all out. Those to come are of rows with `places` numbers after the first. Keeps all of the memory. Takes constant time.
+    /// Removes all products. New rows will have `places` numbers after the first one. Keeps all of the memory. Takes constant time.
     pub fn restart(&mut self, places: usize)
         ensures { self.new ≡ (places, []) }
     {
@@ -66,22 +66,22 @@ impl Products {
         self.rows = 0;
     }
 
-    /// How many sets each product has. Takes constant time.
+    /// Returns the number of sets of each product. Takes constant time.
     pub fn places(&self) -> usize
         ensures { result ≡ self.now.0 }
     {
         self.places
     }
 
-    /// How many products there are. Takes constant time.
+    /// Returns the number of products. Takes constant time.
     pub fn len(&self) -> usize
         ensures { result ≡ length self.now.1 }
     {
         self.firsts.len()
     }
 
-    /// The number of rows in the products, or `u64::MAX` if there are more. It also says that no row is in two of the products, and that
-    /// each product has a set for each place. Takes constant time.
+    /// Returns the number of rows in the products, or `u64::MAX` if there are more. Its clauses also say that no row is in two products,
+    /// and that each product has a set for each place. Takes constant time.
     pub fn rows(&self) -> u64
         ensures rows { result ≡ min (length (rows_in self.now.1)) (2 ^ 64 - 1) }
         ensures apart { AreApart self.now.1 }
@@ -90,7 +90,7 @@ impl Products {
         self.rows
     }
 
-    /// The first number of the product at this place. Takes constant time.
+    /// Returns the first number of the product at index `at`. Takes constant time.
     pub fn first(&self, at: usize) -> usize
         requires { at < length self.now.1 }
         ensures { (product : Product) → slice_get self.now.1 at ≡ Some product → result ≡ product.0 }
@@ -98,7 +98,7 @@ impl Products {
         self.firsts[at]
     }
 
-    /// The sets of the product at this place. Takes constant time.
+    /// Returns the sets of the product at index `at`. Takes constant time.
     #[inline(always)]
     pub fn sets(&self, at: usize) -> &[u64]
         requires { at < length self.now.1 }
@@ -109,7 +109,7 @@ impl Products {
         &self.words[from..from + self.places]
     }
 
-    // Puts the product, whose rows are not there, behind the others.
+    // Appends a product. No other product has one of its rows.
     #[inline(always)]
     fn push(&mut self, first: usize, sets: &[u64]) -> Result<(), AllocError>
         requires long { length sets.now ≡ self.old.0 }
@@ -124,8 +124,8 @@ impl Products {
         Ok(())
     }
 
-    // Puts the product, whose rows are not there, with the others. A product from this place on gets its rows if it differs from it at one
-    // place alone; else the new one is put behind all.
+    // Adds a product. No other product has one of its rows. If it differs at a single place from a product at index `growable_from` or
+    // later, it is merged into that product. Otherwise it is appended.
     fn join_from(
         &mut self,
         growable_from: usize,
@@ -150,7 +150,7 @@ impl Products {
         self.push(first, sets)
     }
 
-    // Adds the rows of `sets`, which no product has, to the product at `at`, by the new set at `place`.
+    // Merges `sets` into the product at index `at`, which gets `set` at `place`. No product has one of the new rows.
     fn replace(&mut self, at: usize, place: usize, set: u64, sets: &[u64])
         requires at { at < length self.old.1 }
         requires place { place < self.old.0 }
@@ -170,8 +170,8 @@ impl Products {
         self.rows = self.rows.saturating_add(rows_of(sets));
     }
 
-    /// Puts the product, whose rows are not there, with the others: a product from which it differs at one place alone gets its rows, or
-    /// else it is put behind all. `AllocError` if there is no memory for it: then the caller drops them all. Costs O(products).
+    /// Adds a product. No other product has one of its rows. If it differs from another product at a single place, it is merged into that
+    /// product; otherwise it is appended. `AllocError` if an allocation fails; the caller then drops all products. Costs O(products).
     pub(crate) fn join(&mut self, first: usize, sets: &[u64]) -> Result<(), AllocError>
         requires long { length sets.now ≡ self.old.0 }
         requires apart { (row : List ℕ) → IsIn (first, sets.now) row → ¬ IsInOne self.old.1 row }
@@ -181,13 +181,13 @@ impl Products {
         self.join_from(0, first, sets)
     }
 
-    /// Adds the rows of a product. Products from place `growable_from` on may get some of them, and new products are appended; the products
-    /// before that place do not change. The stack is memory to work in. `AllocError` if there is no memory: then some of the rows may be
-    /// there.
+    /// Adds the rows of a product. Products from index `growable_from` on may get some of them, and new products are appended. The products
+    /// before that index do not change. `stack` is working memory. `AllocError` if an allocation fails; some of the rows may have been
+    /// added then.
     ///
-    /// The product is compared with all products. If it shares some of its rows with one of them, it is cut into at most one piece for each
-    /// set. Each piece is compared with the products before and may be cut again. If a piece differs in a single set from a product that
-    /// may get rows, that product gets its rows. Else the piece is appended.
+    /// The product is compared with all products. If one of them has some of its rows, the product is cut into at most one piece for each
+    /// set. Each piece is compared with the earlier products and may be cut again. If a piece differs at a single place from a product that
+    /// may get rows, it is merged into that product. Otherwise the piece is appended.
     pub fn put(
         &mut self,
         growable_from: usize,
@@ -205,7 +205,8 @@ impl Products {
         self.put_rest(len, growable_from, first, stack, 0)
     }
 
-    // The last product before this place that shares a row with the product, or may do so, and whether it is known to have all its rows.
+    // Returns the index of the last product before `end` that shares a row with the product `sets`, or may share one. The flag says whether
+    // it is known to have all rows of `sets`.
     #[inline(never)]
     fn last_overlapping(&self, end: usize, first: usize, sets: &[u64]) -> Option<(usize, bool)>
         requires within { end ≤ length self.now.1 }
@@ -234,8 +235,8 @@ impl Products {
         None
     }
 
-    // Puts the rows of the product on top of the stack that are in none of the products before this place; it shares none with
-    // those from there on.
+    // Adds the rows of the product on top of the stack. This product shares rows only with products before index `end`, and only rows that
+    // they do not have are added.
     #[inline(never)]
     #[cycle(putting)]
     fn put_rest(
@@ -261,9 +262,9 @@ impl Products {
         }
     }
 
-    // Puts the rest of the product on top of the stack, without the product at `at`, in pieces, one for each set. At this set the piece has
-    // the numbers that the product at `at` lacks. In the sets before it the piece has the common numbers, and behind it all its own. It may
-    // share rows with products before `at` alone.
+    // Adds the rows of the product on top of the stack that the product at index `at` does not have. It cuts them into pieces, one for each
+    // set. The piece has in this set the numbers that the product at `at` lacks. It has the common numbers in the sets before this one, and
+    // all its own numbers in the sets after it. A piece may share rows only with products before `at`.
     #[cycle(putting)]
     fn put_pieces(
         &mut self,
@@ -295,8 +296,8 @@ impl Products {
         Ok(())
     }
 
-    /// Each row gets a zero behind it. `AllocError` if there is no memory for it, or if the rows would have more places than a `usize` can
-    /// count: then they are as they were. Costs O(products).
+    /// Appends a zero to each row. `AllocError` if an allocation fails, or if the number of places exceeds a `usize`; the rows are then as
+    /// they were. Costs O(products).
     pub fn lengthen(&mut self, alloc: Global) -> Result<(), AllocError>
         ensures longer { OnOk result (self.new ≡ (self.old.0 + 1, map (λ product. (product.0, product.1 ++ 1 ∷ [])) self.old.1)) }
         ensures err { OnErr result (self.new ≡ self.old) }
@@ -309,7 +310,7 @@ impl Products {
         for at in 0..self.firsts.len() {
             let from = at * self.places;
             append(&mut words, &self.words[from..from + self.places])?;
-            // The set of zero alone.
+            // This word is the set of zero alone.
             words.push(1)?;
         }
         self.words = words;
@@ -317,7 +318,7 @@ impl Products {
         Ok(())
     }
 
-    /// A copy of the products. Costs O(words), where each place of each product has one word.
+    /// Returns a copy of the products. Costs O(words), with one word for each place of each product.
     pub fn copied(&self, alloc: Global) -> Result<Products, AllocError>
         ensures { IfOk result (λ copy. copy ≡ self.now) }
     {
@@ -329,7 +330,7 @@ impl Products {
         })
     }
 
-    /// Each gets the products of the other. Takes constant time.
+    /// Exchanges the products of both lists. Takes constant time.
     pub fn trade(&mut self, other: &mut Products)
         ensures mine { self.new ≡ other.old }
         ensures others { other.new ≡ self.old }
@@ -341,8 +342,8 @@ impl Products {
     }
 }
 
-// Puts on the stack the product that begins there, with these numbers left at the place, before it those that the other sets have
-// too, and behind it all.
+// Pushes a piece of the product that begins at `start` of the stack. The piece has the set `left` at `place`. Before this place it has the
+// numbers that `others` have too, and after it all its own numbers.
 fn push_piece(
     stack: &mut Vec<u64>,
     start: usize,
@@ -365,7 +366,7 @@ fn push_piece(
     Ok(())
 }
 
-// The set at this place of a piece.
+// Returns the set at index `at` of a piece that is cut at `place`.
 #[inline(always)]
 fn set_of_piece(at: usize, place: usize, set: u64, other: u64, left: u64) -> u64
     ensures before { at < place → (number : ℕ) → Has result number ↔ (Has set number × Has other number) }

@@ -1,7 +1,7 @@
-//! Memory in which products are written before they are put.
+//! Memory in which products are built before they are added.
 use std::alloc::Global;
 
-/// Sets of a product, and a stack of pieces of it. Their contents do not matter.
+/// The sets of a product, and a stack of pieces of products. Callers must not depend on their contents.
 #[derive(Drop)]
 pub struct Scratch {
     pub sets: Vec<u64>,
@@ -9,7 +9,7 @@ pub struct Scratch {
 }
 
 impl Scratch {
-    /// None yet: takes no memory.
+    /// Returns empty memory. Does not allocate.
     pub fn new(alloc: Global) -> Scratch {
         Scratch {
             sets: Vec::new(alloc),

@@ -1,4 +1,4 @@
-//! The rest of rows whose number at a place is marked.
+//! Selection of the rows whose number at one place is marked.
 ghost use Rattle.std.specs.Prelude.{◌≡◌, ◌↔◌, ◌<◌, ◌≤◌, ◌-◌, [], ℕ, List, IsTrue, true, false, IfSome, OnOk, length, get_or};
 ghost use Rattle.std.specs.List.{remove};
 ghost use Rattle.products.specs.Products.{Has, IsInOne, IsLeft};
@@ -10,11 +10,11 @@ use crate::products::Products;
 use crate::scratch::Scratch;
 use std::alloc::AllocError;
 
-/// Replaces the rows by the rows of `other` whose number at `place` is marked, without that number. The first number of a row is at place
-/// 0, so place 1 is the place of the first set. A mark belongs to the number at its place in the list; a number beyond the list has no
-/// mark. The scratch is memory to work in. `AllocError` if there is no memory: then some of the rows may be there. Compares each product
-/// that has a marked number with the products that are there so far; if several numbers are marked, or one is alone in its set, as
-/// [`Products::put`] does.
+/// Replaces the rows of `products` by the rows of `other` whose number at `place` is marked, without this number. The first number of a row
+/// is at place 0, so place 1 is the place of the first set. `marks` has a flag for each number; a number beyond its end is not marked.
+/// `scratch` is working memory. `AllocError` if an allocation fails; some of the rows may have been added then. Compares each product that
+/// has a marked number with the products that were added before. If several numbers are marked, or a set there is a single number, this
+/// comparison is that of [`Products::put`].
 pub fn take_marked(
     products: &mut Products,
     other: &Products,
@@ -34,8 +34,8 @@ pub fn take_marked(
     }
 }
 
-// The one marked number that the products have at this place, if it is the only one; none also if a set there has a number
-// alone.
+// Returns the only marked number that the products have at `place`. `None` if there is no such number or there are several, or if a set at
+// this place is a single number above 62.
 fn one_marked(other: &Products, place: usize, marks: &[bool]) -> Option<usize>
     requires after { 0 < place }
     requires within { place ≤ other.now.0 }
@@ -60,7 +60,7 @@ fn one_marked(other: &Products, place: usize, marks: &[bool]) -> Option<usize>
     found
 }
 
-// Puts each row that has this number at the place, without it.
+// Adds each row of `other` that has `number` at `place`, without this number.
 fn join_marked(
     products: &mut Products,
     other: &Products,
@@ -74,7 +74,7 @@ fn join_marked(
     ensures places { products.new.0 ≡ other.now.0 - 1 }
     ensures left { OnOk result ((row : List ℕ) → IsInOne products.new.1 row ↔ IsLeftOf other.now.1 place number row) }
 {
-    // It says that no row is in two of them.
+    // The clauses of `rows` say that no row is in two products.
     let _rows = other.rows();
     for at in 0..other.len() {
         let sets = other.sets(at);
@@ -86,7 +86,7 @@ fn join_marked(
     Ok(())
 }
 
-// Puts each row whose number at the place is marked, without it, if it is not there.
+// Adds each row of `other` whose number at `place` is marked, without this number, if no product has it.
 fn put_marked(
     products: &mut Products,
     other: &Products,
@@ -110,7 +110,7 @@ fn put_marked(
     Ok(())
 }
 
-// Writes the sets without the one at this place.
+// Overwrites `left` with `sets` without the one at `place`.
 fn rewrite_without(left: &mut Vec<u64>, sets: &[u64], place: usize) -> Result<(), AllocError>
     requires { place < length sets.now }
     ensures { OnOk result (left.new.items ≡ remove sets.now place) }
@@ -120,7 +120,7 @@ fn rewrite_without(left: &mut Vec<u64>, sets: &[u64], place: usize) -> Result<()
     append(left, &sets[place + 1..])
 }
 
-// Whether a number of the set has a mark.
+// Returns whether a number of the set is marked.
 fn has_marked(set: u64, marks: &[bool]) -> bool
     ensures { IsTrue result ↔ ((number : ℕ) × Has set number × (get_or marks.now number false ≡ true)) }
 {

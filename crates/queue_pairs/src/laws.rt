@@ -1,4 +1,4 @@
-//! Laws of the history of a queue by its answers.
+//! Laws about the history of a FIFO queue, by its answers.
 ghost use Rattle.std.specs.Prelude.{◌≢◌, ◌↔◌, ℕ, ℤ, List, [], ◌∷◌, ◌++◌};
 ghost use Rattle.std.specs.List.{Contains};
 ghost use Rattle.models.specs.Objects.{fifo_queue};
@@ -14,9 +14,9 @@ ghost use Rattle.linspec.specs.Verdicts.{EndsShortestBadPrefix};
 ghost use Rattle.linspec.specs.Twins.{Enqueues, IsEnqueueOf, HasTwins, CountsTwins};
 ghost use Rattle.queue_pairs.specs.Pairs.{Dequeues, IsPaired, TwinsAreLate, TwinsAreAlwaysLate, MayTake, MayFail};
 
-/// A history of a queue whose values differ is linearizable exactly if it is paired. Then each dequeued value was enqueued in time, once
-/// and in turn, and each value that was passed over has a taker. So is the history of one key. An enqueue of a value that is there already
-/// may stand in it, as long as no ok came after it.
+/// A history of a FIFO queue whose values differ is linearizable if and only if it is paired. In a paired history each dequeued value was
+/// enqueued in time, and is dequeued once and in order. Each value that was overtaken has a taker: a dequeue without an answer. The same
+/// holds for the history of one key. An enqueue of a value that is already there is allowed, as long as no ok came after its invocation.
 pub fn pairs_law()
     ensures linearizable { (marks : List Mark) → AreWellFormed marks → TwinsAreLate marks
         → IsLinearizable fifo_queue marks → IsPaired marks }
@@ -28,14 +28,14 @@ pub fn pairs_law()
         ↔ IsPaired (marks (of_key k entries)) }
 {}
 
-/// The ok of an enqueue changes nothing, whatever it answers.
+/// The ok of an enqueue does not change whether a history is paired, whatever its answer.
 pub fn ok_of_enqueue_law()
     ensures { (marks : List Mark) (id : ℕ) (v : ℤ) (answer : Answer) →
         AreWellFormed (marks ++ Returned id answer ∷ []) → IsEnqueueOf marks id v
         → IsPaired (marks ++ Returned id answer ∷ []) ↔ IsPaired marks }
 {}
 
-/// A history is paired with the ok of a dequeue exactly if it was paired before and the dequeue may take this value now.
+/// After the ok of a dequeue a history is paired exactly if it was paired before and the dequeue may take this value now.
 pub fn ok_of_dequeue_law()
     ensures { (marks : List Mark) (id : ℕ) (op : Op) (v : ℤ) →
         AreWellFormed (marks ++ Returned id (Number v) ∷ []) → Contains marks (Invoked id op)
@@ -43,7 +43,8 @@ pub fn ok_of_dequeue_law()
         → IsPaired (marks ++ Returned id (Number v) ∷ []) ↔ (IsPaired marks × MayTake marks id v) }
 {}
 
-/// After another ok no history is paired: the operation enqueues no value, and dequeues none that it answers.
+/// After any other ok a history is not paired. The operation of such an ok does not enqueue a value, and is not a dequeue that answers a
+/// value.
 pub fn other_oks_law()
     ensures { (marks : List Mark) (id : ℕ) (op : Op) (answer : Answer) →
         AreWellFormed (marks ++ Returned id answer ∷ []) → Contains marks (Invoked id op)
@@ -51,8 +52,8 @@ pub fn other_oks_law()
         → ¬ IsPaired (marks ++ Returned id answer ∷ []) }
 {}
 
-/// An invocation and an info change nothing. A history is paired with a fail exactly if it was paired before and the operation may fail
-/// now.
+/// An invocation and an info do not change whether a history is paired. After a fail a history is paired if and only if it was paired
+/// before and the operation may fail now.
 pub fn other_events_law()
     ensures invoke { (marks : List Mark) (id : ℕ) (op : Op) →
         AreWellFormed (marks ++ Invoked id op ∷ [])
@@ -64,7 +65,8 @@ pub fn other_events_law()
         → IsPaired (marks ++ Failed id ∷ []) ↔ (IsPaired marks × MayFail marks id) }
 {}
 
-/// Twins are late where there are none, and stay late at each event other than an ok. An ok makes no twins.
+/// Twins are two enqueues of one value that have not failed. Twins are late if one of them was invoked after every ok. A history without
+/// twins has only late twins, and they stay late at each event that is not an ok. An ok makes no twins.
 pub fn twins_law()
     ensures none { (marks : List Mark) → (¬ HasTwins marks) → TwinsAreLate marks }
     ensures stay { (marks : List Mark) (m : Mark) → AreWellFormed (marks ++ m ∷ [])
@@ -75,8 +77,8 @@ pub fn twins_law()
         → ¬ HasTwins (marks ++ Returned id answer ∷ []) }
 {}
 
-/// The history of a queue becomes illegal at the event at which it stops being paired. This holds if twins were late after each event, and
-/// if no ok found the history linearizable with twins.
+/// The history of a FIFO queue becomes illegal at the event at which it stops being paired. This holds if twins were late after each event.
+/// It also holds if the history was never linearizable with twins just before an ok.
 pub fn illegal_at_law()
     ensures late { (entries : List Entry) (last : Entry) → AreWellFormed (marks entries)
         → TwinsAreAlwaysLate entries

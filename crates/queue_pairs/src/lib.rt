@@ -1,5 +1,6 @@
-//! Laws of queues whose values differ: the answers, and their moments, decide whether a history of a queue is linearizable. No order has to
-//! be tried. They say so of a whole history, of each event that it may get, and of the event at which it becomes illegal.
+//! Laws about FIFO queues whose values differ. The answers and their times decide whether a history of such a queue is linearizable, so no
+//! order has to be tried. The laws are about a whole history, about each event that it may get, and about the event at which it becomes
+//! illegal.
 #![tactic(auto)]
 
 pub mod laws;

@@ -9,7 +9,7 @@ use Rattle.linspec.specs.JudgedHistory.{JudgedHistory, IsVerdictOn, keys_in_orde
 use Rattle.report.specs.KeyLine.{key_line}
 use Rattle.report.specs.VerdictLine.{verdict_line}
 
--- the line of a key of this history that stands so
+-- the line of a key of this history, with this status
 abbrev pub line_in : JudgedHistory → ℕ × KeyStatus → List ℕ
 line_in h row = key_line row.0 (kind_of h row.0) (budget_of h row.0) (length (history_of_key h row.0).events) row.1
 
@@ -18,19 +18,19 @@ abbrev pub lines_in : JudgedHistory → List (ℕ × KeyStatus) → List ℕ
 lines_in h [] = []
 lines_in h (row ∷ rows) = line_in h row ++ lines_in h rows
 
--- each of these keys stands so in the history, from scratch
+-- each of these keys has this status in the history, computed from scratch
 abbrev pub Stand : JudgedHistory → List (ℕ × KeyStatus) → Type 0
 Stand h rows = All (λ row. IsStatusOf (history_of_key h row.0) row.1) rows
 
--- the text is the lines of these keys, in order, each by how it stands
+-- the text has the lines of these keys, in order, each with its status
 pub record IsRows (h : JudgedHistory) (keys : List ℕ) (text : List ℕ) : Type 0 where
   pub rows : List (ℕ × KeyStatus)
   pub keys_are : map (λ row. row.0) rows ≡ keys
   pub stand : Stand h rows
   pub text_is : text ≡ lines_in h rows
 
--- a line for each key that has events, in the order of their first events, and the line of the verdict from scratch, which joins the
--- statuses of the lines above it
+-- a line for each key that has events, in the order of their first events; then the line of the verdict, computed from scratch, which joins
+-- the statuses of the lines
 pub record IsReport (h : JudgedHistory) (text : List ℕ) : Type 0 where
   pub lines : List ℕ
   pub rows : IsRows h (keys_in_order h.events) lines

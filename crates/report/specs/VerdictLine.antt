@@ -1,4 +1,4 @@
--- Promise: the line that says a verdict
+-- Promise: the line of a verdict
 use Rattle.std.specs.Prelude.{ℕ, List, [], ◌∷◌, codes, decimal}
 use Rattle.line_loop.specs.RefusalLine.{line_of}
 use Rattle.linspec.specs.declared.verdict.Verdict.{Verdict}

@@ -1,6 +1,6 @@
 //! The statuses of a monitor as text: a line for each key that has events, and the line of the verdict.
 //!
-//! `script` answers by the line of the verdict alone; a check and a run write a whole report, whose last line it is.
+//! `script` answers with the line of the verdict alone. A check and a run write a whole report, whose last line is that of the verdict.
 //!
 //! A call allocates only if its result can be `AllocError`, or a refusal because memory ran out.
 #![tactic(auto)]

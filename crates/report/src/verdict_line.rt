@@ -1,11 +1,11 @@
-//! The line that says a verdict.
+//! The line of a verdict.
 ghost use Rattle.std.specs.Prelude.{◌≡◌, ◌++◌, IfOk, OnOk, OnErr, string_bytes};
 ghost use Rattle.report.specs.VerdictLine.{verdict_line};
 
 use linspec::Verdict;
 use std::alloc::{AllocError, Global};
 
-/// The line of a verdict with its line feed, as `illegal key 7 index 3`. Takes memory for the line.
+/// Returns the line of a verdict with its line feed, such as `illegal key 7 index 3`. Allocates the line.
 pub fn verdict_text(alloc: Global, verdict: &Verdict) -> Result<String, AllocError>
     ensures { IfOk result (λ text. string_bytes text ≡ verdict_line verdict.now) }
 {
@@ -16,11 +16,11 @@ pub fn verdict_text(alloc: Global, verdict: &Verdict) -> Result<String, AllocErr
     }
 }
 
-/// Appends the line of a verdict to a reply. In addition to the reply it takes memory for one line, and none for `legal`.
+/// Appends the line of a verdict to a reply. In addition to the reply it allocates one line, or nothing for `legal`.
 ///
 /// # Errors
 ///
-/// `AllocError` if memory is refused, and then the reply is as it was.
+/// `AllocError` if an allocation fails; the reply is then as it was.
 pub fn append_verdict(
     alloc: Global,
     reply: &mut Vec<u8>,

@@ -13,14 +13,14 @@ use monitor::joined::verdict_joins_law;
 use std::alloc::{AllocError, Global};
 
 /// Appends a line for each key that has events, in the order of their first events, and the line of the verdict. The verdict is the one
-/// from scratch. It is illegal at the least index at which a key is dead, else unknown at the least index at which a key is over its budget,
-/// else legal.
+/// that a computation from scratch gives. It is illegal at the least index at which a key is dead. If no key is dead, it is unknown at the
+/// least index at which a key is over its budget. Otherwise it is legal.
 ///
-/// It costs O(keys), and at most the memory of the text twice.
+/// Costs O(keys), and at most twice the memory of the text.
 ///
 /// # Errors
 ///
-/// `AllocError` if memory is refused, and then the bytes are as they were.
+/// `AllocError` if an allocation fails; `bytes` is then as it was.
 pub fn report(alloc: Global, monitor: &Monitor, bytes: &mut Vec<u8>) -> Result<(), AllocError>
     ensures ok { OnOk result ((text : List ℕ) × IsReport monitor.now.now text
         × (bytes.new.items ≡ bytes.old.items ++ text)) }
@@ -31,7 +31,7 @@ pub fn report(alloc: Global, monitor: &Monitor, bytes: &mut Vec<u8>) -> Result<(
     bytes.extend_from_slice(text.as_slice())
 }
 
-// The lines of the keys.
+// Returns the lines of the keys.
 fn key_lines(alloc: Global, monitor: &Monitor) -> Result<Vec<u8>, AllocError>
     ensures { IfOk result (λ text.
         IsRows monitor.now.now (keys_in_order monitor.now.now.events) text.items) }
@@ -44,14 +44,14 @@ fn key_lines(alloc: Global, monitor: &Monitor) -> Result<Vec<u8>, AllocError>
     Ok(text)
 }
 
-// The verdict: the join of the statuses of the keys.
+// Returns the verdict: the join of the statuses of the keys.
 fn verdict_of(monitor: &Monitor) -> Verdict
     ensures judged { IsVerdictOn monitor.now.now result }
     ensures joined { (rows : List (ℕ × KeyStatus))
         → map (λ row. row.0) rows ≡ keys_in_order monitor.now.now.events
         → Stand monitor.now.now rows → IsJoin rows result }
 {
-    // A history's length says that its events came as the process rule wants.
+    // The clauses of `len` say that the events follow the process rule.
     let _ = monitor.history().len();
     verdict_joins_law();
     monitor.verdict()

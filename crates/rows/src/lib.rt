@@ -1,9 +1,9 @@
-//! Rows of numbers, each once.
+//! Sets of rows of numbers.
 //!
-//! While its numbers are small, a row is one word of 128 bits, with the same number of bits for each number. At first a row fills half of
-//! the word. The first number that does not fit gives all rows the whole word. Rows that grow longer are written again, with fewer bits for
-//! each number. If one row fits no word, all rows become lists, which are found by an index of their hashes. `words` packs words, takes
-//! them apart and keeps them. A copy of a set has no index, and makes one at the next put.
+//! If its numbers are small, a row is one word of 128 bits, with the same number of bits for each number. At first a row uses half of the
+//! word. The first number that does not fit makes all rows use the whole word. If rows become longer, they are packed again, with fewer
+//! bits for each number. If one row does not fit in a word, all rows become lists, which an index of their hashes finds. The crate `words`
+//! packs, unpacks and stores words. A copy of a set has no index, and makes one at the next insertion.
 //!
 //! A call allocates only if its result can be `AllocError`, or a refusal because memory ran out.
 #![tactic(auto)]

@@ -1,4 +1,4 @@
-//! Lists of numbers, none twice.
+//! Sets of lists of numbers, in a box.
 ghost use Rattle.std.specs.Prelude.{◌≡◌, [], take, length, get_or, slice_get, option_copied, IfOk, OnOk, OnErr};
 ghost use Rattle.rows.specs.Lists.{lists_in};
 ghost use Rattle.words.specs.Puts.{IsPut};
@@ -7,8 +7,8 @@ use crate::lists::Lists;
 use std::alloc::{AllocError, Global};
 use std::marker::Model;
 
-/// Lists of numbers, none twice, in the order in which they were put. They are in a box, which is made when one is put: without lists, as
-/// when rows are words, it takes next to no room.
+/// Different lists of numbers, in the order in which they were added. They are in a box, which the first insertion makes. So a set without
+/// lists takes almost no memory, such as one whose rows are words.
 #[derive(Drop)]
 pub struct ListSet {
     kept: Option<Box<Lists>>,
@@ -23,7 +23,7 @@ impl Model for ListSet {
     ghost view = { λ s. lists_in s.kept };
 }
 
-// Takes out the lists that are kept; with none, makes a box for some.
+// Takes the lists out of `kept`. If there are none, makes a box with no lists.
 fn take_lists(alloc: Global, kept: &mut Option<Box<Lists>>) -> Result<Box<Lists>, AllocError>
     ensures taken { IfOk result (λ lists. lists.value ≡ lists_in kept.old) }
     ensures err { OnErr result (lists_in kept.new ≡ lists_in kept.old) }
@@ -35,14 +35,14 @@ fn take_lists(alloc: Global, kept: &mut Option<Box<Lists>>) -> Result<Box<Lists>
 }
 
 impl ListSet {
-    /// No lists.
+    /// Returns a set without lists.
     pub fn new() -> ListSet
         ensures { result ≡ [] }
     {
         ListSet { kept: None }
     }
 
-    /// How many lists there are. Takes constant time.
+    /// Returns the number of lists. Takes constant time.
     #[inline(always)]
     pub fn len(&self) -> usize
         ensures { result ≡ length self.now }
@@ -53,7 +53,7 @@ impl ListSet {
         }
     }
 
-    /// The list at place `at`, or `None` beyond the last list. Takes constant time.
+    /// Returns the list at place `at`, or `None` beyond the last list. Takes constant time.
     #[inline(never)]
     pub fn get(&self, at: usize) -> Option<&[usize]>
         ensures { option_copied result ≡ slice_get self.now at }
@@ -64,7 +64,7 @@ impl ListSet {
         lists.get(at)
     }
 
-    /// The number at `place` of the list at `at`, or zero if there is none. Takes constant time.
+    /// Returns the number at `place` of the list at index `at`, or zero if there is none. Takes constant time.
     #[inline(never)]
     pub fn number(&self, at: usize, place: usize) -> usize
         ensures { result ≡ get_or (get_or self.now at []) place 0 }
@@ -78,7 +78,7 @@ impl ListSet {
         }
     }
 
-    /// The length of the list at place `at`, or zero if there is none. Takes constant time.
+    /// Returns the length of the list at index `at`, or zero if there is none. Takes constant time.
     pub fn long_at(&self, at: usize) -> usize
         ensures { result ≡ length (get_or self.now at []) }
     {
@@ -88,8 +88,8 @@ impl ListSet {
         }
     }
 
-    /// Puts the list with the others, if it is not there. `AllocError` if memory was refused, or if there are too many lists for
-    /// places of 32 bits: then the lists are as they were. Costs O(its numbers), and looks it up by its hash.
+    /// Adds `list` if the set does not contain it. `AllocError` if an allocation fails, or if there are too many lists for places of 32
+    /// bits; the lists are then as they were. Costs O(numbers of the list), and a look-up by its hash.
     #[inline(never)]
     pub fn put(&mut self, alloc: Global, list: Vec<usize>) -> Result<(), AllocError>
         ensures put { OnOk result (IsPut list.items self.old self.new) }
@@ -101,7 +101,7 @@ impl ListSet {
         outcome
     }
 
-    /// Keeps the first `len` lists. Costs at most O(lists).
+    /// Keeps only the first `len` lists. Costs at most O(lists).
     #[inline(never)]
     pub fn truncate(&mut self, len: usize)
         ensures { self.new ≡ take len self.old }
@@ -113,7 +113,7 @@ impl ListSet {
         self.kept = Some(lists);
     }
 
-    /// The same lists, with memory of their own. Costs O(all their numbers).
+    /// Returns the same lists, with memory of their own. Costs O(all their numbers).
     #[inline(never)]
     pub fn copied(&self, alloc: Global) -> Result<ListSet, AllocError>
         ensures { IfOk result (λ lists. lists ≡ self.now) }

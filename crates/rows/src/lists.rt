@@ -1,4 +1,4 @@
-//! Lists of numbers that an index of their hashes finds.
+//! Lists of numbers, with an index of their hashes.
 ghost use Rattle.std.specs.Prelude.{◌≡◌, ◌≢◌, ◌<◌, [], map, take, length, Some, slice_get, option_copied, IsTrue, IsFalse, IfOk, OnOk, OnErr};
 ghost use Rattle.std.specs.List.{Contains};
 ghost use Rattle.buckets.specs.Index.{hash_bucket};
@@ -9,7 +9,7 @@ use buckets::{Bucketed, Index, find, hash_of, index_hashes, put_behind};
 use std::alloc::{AllocError, Global};
 use std::marker::Model;
 
-/// Lists of numbers, none twice, in the order in which they were put. An index of their hashes finds them.
+/// Different lists of numbers, in the order in which they were added. An index of their hashes finds them.
 #[derive(Drop)]
 pub(crate) struct Lists {
     items: Vec<Vec<usize>>,
@@ -29,7 +29,7 @@ impl Model for Lists {
         l.hashes.items l.index.last.items l.index.before.items };
 }
 
-// Whether the list at place `at` is this one. Its hash is given, and compared first.
+// Returns whether the list at index `at` is `list`. `hash` is the hash of `list`, and is compared first.
 fn stands_at(items: &[Vec<usize>], hashes: &[u64], at: usize, hash: u64, list: &[usize]) -> bool
     requires hash { hash ≡ list_hash list.now }
     requires hashes { hashes.now ≡ map list_hash (map items_of items.now) }
@@ -41,7 +41,7 @@ fn stands_at(items: &[Vec<usize>], hashes: &[u64], at: usize, hash: u64, list: &
     hashes[at] == hash && items[at].as_slice() == list
 }
 
-// Whether the list is there, which has this hash, and the hash is in this bucket. All hashes are indexed.
+// Returns whether the set contains `list`. `hash` is its hash, and `bucket` is the bucket of the hash. All hashes are indexed.
 fn has_list(
     items: &[Vec<usize>],
     hashes: &[u64],
@@ -65,7 +65,7 @@ fn has_list(
     .is_some()
 }
 
-// Puts the list, which has this hash, with the others, if it is not there. All hashes are indexed.
+// Adds `list`, whose hash is `hash`, if the set does not contain it. All hashes are indexed.
 fn put_hashed(
     items: &mut Vec<Vec<usize>>,
     hashes: &mut Vec<u64>,
@@ -97,7 +97,7 @@ fn put_hashed(
 }
 
 impl Lists {
-    /// No lists.
+    /// Returns a value without lists.
     pub(crate) fn new(alloc: Global) -> Lists
         ensures { result ≡ [] }
     {
@@ -108,7 +108,7 @@ impl Lists {
         }
     }
 
-    /// How many lists there are. Takes constant time.
+    /// Returns the number of lists. Takes constant time.
     #[inline(always)]
     pub(crate) fn len(&self) -> usize
         ensures { result ≡ length self.now }
@@ -116,7 +116,7 @@ impl Lists {
         self.items.len()
     }
 
-    /// The list at place `at`, or `None` beyond the last list. Takes constant time.
+    /// Returns the list at place `at`, or `None` beyond the last list. Takes constant time.
     #[inline(always)]
     pub(crate) fn get(&self, at: usize) -> Option<&[usize]>
         ensures { option_copied result ≡ slice_get self.now at }
@@ -127,9 +127,9 @@ impl Lists {
         }
     }
 
-    /// Adds the list if it is not there. `AllocError` if there is no memory, or if there are too many lists for places of 32 bits: then the
-    /// lists are as they were. Costs a hash of the list, and a comparison with the lists of the same hash. If there are as many lists as
-    /// buckets, all are indexed again.
+    /// Adds `list` if the set does not contain it. `AllocError` if an allocation fails, or if there are too many lists for places of 32
+    /// bits; the lists are then as they were. Costs a hash of the list, and comparisons with the lists of the same hash. If there are as
+    /// many lists as buckets, all lists are indexed again.
     pub(crate) fn put(&mut self, list: Vec<usize>) -> Result<(), AllocError>
         ensures put { OnOk result (IsPut list.items self.old self.new) }
         ensures err { OnErr result (self.new ≡ self.old) }
@@ -149,7 +149,7 @@ impl Lists {
         )
     }
 
-    /// Keeps the first `len` lists. If it removes indexed lists, the next put indexes all again.
+    /// Keeps only the first `len` lists. If it removes indexed lists, the next call of [`put`](Self::put) indexes all lists again.
     pub(crate) fn truncate(&mut self, len: usize)
         ensures { self.new ≡ take len self.old }
     {
@@ -160,7 +160,7 @@ impl Lists {
         self.items.truncate(len);
     }
 
-    /// The same lists, with memory of their own. They are indexed when one is put. Costs O(all their numbers).
+    /// Returns the same lists, with memory of their own. The next call of [`put`](Self::put) indexes them. Costs O(all their numbers).
     pub(crate) fn copied(&self, alloc: Global) -> Result<Lists, AllocError>
         ensures { IfOk result (λ lists. lists ≡ self.now) }
     {

@@ -1,4 +1,4 @@
-//! A row that is looked at and is more than half a word.
+//! A row that was read from a set and needs more than half a word.
 ghost use Rattle.std.specs.Prelude.{◌≡◌, ◌↔◌, ◌*◌, ◌^◌, ◌≤◌, [], Some, IsTrue, get_or, slice_get, OnOk};
 ghost use Rattle.words.specs.Words.{digits};
 
@@ -6,7 +6,7 @@ use std::alloc::{AllocError, Global};
 use std::marker::Model;
 use words::{first_of, has_zero_in_whole};
 
-/// A row of numbers in a whole word, or in a list if they do not fit a word. The memory of the list is kept for the next row.
+/// A row of numbers in a whole word, or in a list if it does not fit in a word. The memory of the list is kept for the next row.
 #[derive(Drop)]
 pub struct LongRow {
     long: usize,
@@ -27,7 +27,7 @@ impl Model for LongRow {
 }
 
 impl LongRow {
-    /// No numbers.
+    /// Returns an empty row.
     pub fn new(alloc: Global) -> LongRow
         ensures { result ≡ [] }
     {
@@ -39,7 +39,7 @@ impl LongRow {
         }
     }
 
-    /// Sets the numbers to the `long` numbers of the word, each of `bits` bits. Takes constant time.
+    /// Sets the row to the `long` numbers of the word. Each number has `bits` bits. Takes constant time.
     #[inline(always)]
     pub fn set_word(&mut self, word: u128, bits: u32, long: usize)
         requires few { bits ≤ 32 }
@@ -52,7 +52,7 @@ impl LongRow {
         self.word = word;
     }
 
-    /// Overwrites the row with these numbers. Costs O(numbers).
+    /// Sets the row to the numbers of `list`. Costs O(numbers).
     #[inline(never)]
     pub fn set_list(&mut self, list: &[usize]) -> Result<(), AllocError>
         ensures { OnOk result (self.new ≡ list.now) }
@@ -63,7 +63,7 @@ impl LongRow {
         Ok(())
     }
 
-    /// Its first number, and zero if there is none. Takes constant time.
+    /// Returns the first number, or zero if the row is empty. Takes constant time.
     #[inline(always)]
     pub fn first(&self) -> usize
         ensures { result ≡ get_or self.now 0 0 }
@@ -75,7 +75,7 @@ impl LongRow {
         }
     }
 
-    /// Whether it has a zero at this place, and not only no number. Takes constant time.
+    /// Returns whether the row has a number at `place` and this number is zero. Takes constant time.
     #[inline(always)]
     #[tactic(auto, using(crate::proofs::Looking::looked))]
     pub fn has_zero(&self, place: usize) -> bool
@@ -89,7 +89,7 @@ impl LongRow {
     }
 }
 
-// The first number of the list, and zero if there is none.
+// Returns the first number of the list, or zero if the list is empty.
 #[inline(never)]
 fn first_in_list(list: &[usize]) -> usize
     ensures { result ≡ get_or list.now 0 0 }
@@ -100,7 +100,7 @@ fn first_in_list(list: &[usize]) -> usize
     }
 }
 
-// Whether the list has zero at this place.
+// Returns whether the list has a number at `place` and this number is zero.
 #[inline(never)]
 fn has_zero_in_list(list: &[usize], place: usize) -> bool
     ensures { IsTrue result ↔ (slice_get list.now place ≡ Some 0) }

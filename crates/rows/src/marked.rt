@@ -1,4 +1,4 @@
-//! Rows that are taken over from others, where their number at one place is marked.
+//! Copies of rows whose number at one place is marked.
 ghost use Rattle.std.specs.Prelude.{◌≡◌, ◌<◌, ◌+◌, ◌^◌, false, get_or, length, map, OnOk};
 ghost use Rattle.rows.specs.RowSets.{PutsMarked};
 ghost use Rattle.words.specs.Words.{ArePacked, digits};
@@ -6,7 +6,7 @@ ghost use Rattle.words.specs.Words.{ArePacked, digits};
 use std::alloc::AllocError;
 use words::{WordSet, number_at, without};
 
-/// Whether the number is marked: the marks have true for it, by place.
+/// Returns whether the number is marked. `marks` has a flag for each number.
 pub(crate) fn has_mark(marks: &[bool], number: usize) -> bool
     ensures { result ≡ get_or marks.now number false }
 {
@@ -16,8 +16,8 @@ pub(crate) fn has_mark(marks: &[bool], number: usize) -> bool
     }
 }
 
-/// Puts the row of each of the other words whose number at this place is marked, without that number, if it is not there.
-/// `AllocError` if memory was refused: then some of them are put.
+/// Adds the row of each word in `others` whose number at `place` is marked, without this number, if `words` does not contain it.
+/// `AllocError` if an allocation fails; some of the rows have been added then.
 pub(crate) fn put_marked_words(
     words: &mut WordSet,
     others: &WordSet,

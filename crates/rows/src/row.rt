@@ -1,4 +1,4 @@
-//! A row that is looked at.
+//! A row that was read from a set.
 ghost use Rattle.std.specs.Prelude.{◌≡◌, ◌↔◌, ◌*◌, ◌^◌, ◌≤◌, [], Some, IsTrue, get_or, slice_get, OnOk};
 ghost use Rattle.words.specs.Words.{digits};
 
@@ -28,7 +28,7 @@ impl Model for Row {
     ghost invariant = { λ r. IsHalf r.bits r.long r.largest };
 }
 
-// So that crates above give one back by one call.
+// With this implementation, a crate above drops a row by one call.
 impl Drop for Row {
     fn drop(self) {
         let Row {
@@ -42,7 +42,7 @@ impl Drop for Row {
 }
 
 impl Row {
-    /// No numbers.
+    /// Returns an empty row.
     pub fn new(alloc: Global) -> Row
         ensures { result ≡ [] }
     {
@@ -55,7 +55,7 @@ impl Row {
         }
     }
 
-    /// Sets the numbers to the `long` numbers of the word, each of `bits` bits. Takes constant time.
+    /// Sets the row to the `long` numbers of the word. Each number has `bits` bits. Takes constant time.
     #[inline(always)]
     pub fn set_word(&mut self, word: u128, bits: u32, long: usize)
         requires few { bits ≤ 32 }
@@ -76,7 +76,7 @@ impl Row {
         }
     }
 
-    /// Overwrites the row with these numbers. Costs O(numbers).
+    /// Sets the row to the numbers of `list`. Costs O(numbers).
     #[inline(never)]
     pub fn set_list(&mut self, list: &[usize]) -> Result<(), AllocError>
         ensures { OnOk result (self.new ≡ list.now) }
@@ -85,7 +85,7 @@ impl Row {
         self.longer.set_list(list)
     }
 
-    /// Its first number, and zero if there is none. Takes constant time.
+    /// Returns the first number, or zero if the row is empty. Takes constant time.
     #[inline(always)]
     pub fn first(&self) -> usize
         ensures { result ≡ get_or self.now 0 0 }
@@ -97,7 +97,7 @@ impl Row {
         }
     }
 
-    /// Whether it has a zero at this place, and not only no number. Takes constant time.
+    /// Returns whether the row has a number at `place` and this number is zero. Takes constant time.
     #[inline(always)]
     #[tactic(auto, using(crate::proofs::Looking::looked))]
     pub fn has_zero(&self, place: usize) -> bool

@@ -1,4 +1,4 @@
-//! Rows of numbers, each once.
+//! Sets of rows of numbers.
 ghost use Rattle.std.specs.Prelude.{◌≡◌, ◌<◌, ◌≤◌, ◌*◌, ◌^◌, [], ◌∷◌, ◌++◌, true, false, Some, IsTrue, map, take, length, get_or, set, slice_get, IfOk, IfSome, OnOk, OnErr};
 ghost use Rattle.std.specs.List.{remove};
 ghost use Rattle.words.specs.Words.{ArePacked, digits};
@@ -13,17 +13,17 @@ use std::marker::Model;
 use std::mem::swap;
 use words::{WordSet, changed, number_at, packed, unpack};
 
-/// Rows of numbers, none twice, in the order in which they were put. As long as they have the expected length and small numbers, each is
-/// one word, at first half of it; else each is a list of its own.
+/// Different rows of numbers, in the order in which they were added. If all rows have the expected length and small numbers, each row is
+/// one word, and uses only half of it at first. Otherwise each row is a list.
 pub struct RowSet {
     alloc: Global,
-    /// How many numbers a row has that is a word.
+    /// The length of a row that is a word.
     long: usize,
-    /// How many bits each number of a word has; zero if a row has too many numbers for a word.
+    /// The number of bits of each number of a word. Zero if a row has too many numbers for a word.
     bits: u32,
-    /// Whether the words were written again, with all bits of a word.
+    /// Whether the words were packed again, to use the whole word.
     whole: bool,
-    /// Whether some row fits no word, so that all rows are lists.
+    /// Whether all rows are lists, because one of them does not fit in a word.
     wide: bool,
     words: WordSet,
     lists: ListSet,
@@ -40,7 +40,7 @@ impl Model for RowSet {
     ghost invariant = { λ a. ArePacked a.bits a.long a.words };
 }
 
-// So that crates above give one back by one call.
+// With this implementation, a crate above drops a set of rows by one call.
 impl Drop for RowSet {
     fn drop(self) {
         let RowSet {
@@ -55,9 +55,9 @@ impl Drop for RowSet {
     }
 }
 
-// The bits of each number of a row with `long` numbers. They are the bits of a whole word, or of half a word, shared out among the numbers
-// and two more, so that rows can grow. No number gets more than 32 bits of a whole word, or 10 of half a word. A row of more than 30
-// numbers gets the whole word. One of more than 126 gets no bits, since it is a list.
+// Returns the number of bits for each number of a row of `long` numbers. The bits of a whole word, or of half a word, are divided among the
+// numbers and two further ones, so that rows can grow. A number gets at most 32 bits of a whole word, or 10 bits of half a word. A row of
+// more than 30 numbers uses the whole word. A row of more than 126 numbers gets no bits, since it is a list.
 fn bits_for(long: usize, whole: bool) -> u32
     ensures few { result ≤ 32 }
     ensures room { result * long ≤ 128 }
@@ -81,7 +81,7 @@ fn rewrite(next: &mut Vec<usize>, row: &[usize]) -> Result<(), AllocError>
     Ok(())
 }
 
-// The same numbers.
+// Returns a copy of the row.
 fn copied(alloc: Global, row: &[usize]) -> Result<Vec<usize>, AllocError>
     ensures { IfOk result (λ copy. copy.items ≡ row.now) }
 {
@@ -90,7 +90,7 @@ fn copied(alloc: Global, row: &[usize]) -> Result<Vec<usize>, AllocError>
     Ok(copy)
 }
 
-// Reads the list at this place.
+// Reads the list at index `at` into `row`.
 #[inline(never)]
 fn look_at_list(lists: &ListSet, at: usize, row: &mut Row) -> Result<(), AllocError>
     requires { at < length lists.now }
@@ -102,7 +102,7 @@ fn look_at_list(lists: &ListSet, at: usize, row: &mut Row) -> Result<(), AllocEr
     row.set_list(list)
 }
 
-// The rows of the words, as lists.
+// Returns the rows of the words, as lists.
 fn listed(alloc: Global, words: &WordSet, bits: u32, long: usize) -> Result<ListSet, AllocError>
     requires { ArePacked bits long words.now }
     ensures { IfOk result (λ lists. lists ≡ map (digits (2 ^ bits) long) words.now) }
@@ -119,7 +119,7 @@ fn listed(alloc: Global, words: &WordSet, bits: u32, long: usize) -> Result<List
     Ok(lists)
 }
 
-// The words of the same rows, with this many bits for each number, or none if a number has more.
+// Returns the words of the same rows, with `new_bits` bits for each number, or `None` if a number does not fit.
 fn repacked(
     alloc: Global,
     words: &WordSet,
@@ -149,7 +149,7 @@ fn repacked(
     Ok(Some(other))
 }
 
-// The number at `place` of the row in the word at `at`, or zero if there is none.
+// Returns the number at `place` of the row in the word at index `at`, or zero if there is none.
 fn number_in_word(words: &WordSet, bits: u32, long: usize, at: usize, place: usize) -> usize
     requires { ArePacked bits long words.now }
     ensures { let rows = map (digits (2 ^ bits) long) words.now in
@@ -162,7 +162,7 @@ fn number_in_word(words: &WordSet, bits: u32, long: usize, at: usize, place: usi
 }
 
 impl RowSet {
-    /// No rows. They are expected to have `long` numbers.
+    /// Returns a set without rows. Its rows should have `long` numbers; a row of another length turns all rows into lists.
     pub fn new(alloc: Global, long: usize) -> RowSet
         ensures { result ≡ [] }
     {
@@ -177,15 +177,16 @@ impl RowSet {
         }
     }
 
-    /// Takes all rows out. Those to come are expected to have `long` numbers. Keeps the memory, unless that was for far more rows than
-    /// there were last. Costs at most O(rows).
+    /// Removes all rows. New rows should have `long` numbers; a row of another length turns all rows into lists. Keeps the memory, unless
+    /// it was allocated for many more rows than there are now. Costs at most O(rows).
     pub fn restart(&mut self, long: usize)
         ensures { self.new ≡ [] }
     {
         self.restart_with(long, bits_for(long, false), false);
     }
 
-    /// Removes all rows, as [`restart`](Self::restart) does, for rows with numbers like those of `other`. Costs O(rows) at most.
+    /// Removes all rows, as [`restart`](Self::restart) does. New rows should have `long` numbers of about the size of those in `other`.
+    /// Costs at most O(rows).
     pub fn restart_like(&mut self, other: &RowSet, long: usize)
         ensures { self.new ≡ [] }
     {
@@ -196,7 +197,7 @@ impl RowSet {
         }
     }
 
-    // The same, with `bits` bits for each number.
+    // Removes all rows. New rows should have `long` numbers, which are packed with `bits` bits each.
     fn restart_with(&mut self, long: usize, bits: u32, whole: bool)
         requires few { bits ≤ 32 }
         requires room { bits * long ≤ 128 }
@@ -215,7 +216,7 @@ impl RowSet {
         self.bits = bits;
     }
 
-    /// How many rows there are. Takes constant time.
+    /// Returns the number of rows. Takes constant time.
     pub fn len(&self) -> usize
         ensures { result ≡ length self.now }
     {
@@ -226,9 +227,8 @@ impl RowSet {
         }
     }
 
-    /// Loads the row at this place into `row` as it is kept, a word as a word, and replaces the old content of `row`. `AllocError` if there
-    /// is no memory for it: then the content of `row` is not promised. Takes constant time if the row is a word, and else the time of
-    /// its numbers.
+    /// Reads the row at index `at` into `row`, and replaces its old content. A word stays a word. `AllocError` if an allocation fails; the
+    /// content of `row` is then undefined. Takes constant time if the row is a word, and otherwise costs O(numbers).
     #[inline(always)]
     pub fn look(&self, at: usize, row: &mut Row) -> Result<(), AllocError>
         requires { at < length self.now }
@@ -245,8 +245,8 @@ impl RowSet {
         }
     }
 
-    /// Copies the numbers of the row at this place into the list `row`, and replaces its old content. `AllocError` if there is no memory
-    /// for them: then the content of `row` is not promised. Costs O(numbers).
+    /// Copies the numbers of the row at index `at` into the list `row`, and replaces its old content. `AllocError` if an allocation fails;
+    /// the content of `row` is then undefined. Costs O(numbers).
     #[inline(never)]
     pub fn read(&self, at: usize, row: &mut Vec<usize>) -> Result<(), AllocError>
         requires { at < length self.now }
@@ -265,7 +265,7 @@ impl RowSet {
         }
     }
 
-    /// The number at a place of the row at `at`, and zero if there is none. Takes constant time.
+    /// Returns the number at `place` of the row at index `at`, or zero if there is none. Takes constant time.
     pub fn number(&self, at: usize, place: usize) -> usize
         ensures { result ≡ get_or (get_or self.now at []) place 0 }
     {
@@ -276,7 +276,7 @@ impl RowSet {
         }
     }
 
-    // How many numbers the row at `at` has.
+    // Returns the length of the row at index `at`.
     fn long_at(&self, at: usize) -> usize
         requires { at < length self.now }
         ensures { result ≡ length (get_or self.now at []) }
@@ -287,9 +287,9 @@ impl RowSet {
         self.long
     }
 
-    /// Adds the row if it is not there. `AllocError` if there is no memory: then the rows are as they were. Costs O(numbers of the row),
-    /// and a look-up by its hash if there are more than a few rows. If the row does not fit the words of the others, all rows are written
-    /// again. That happens at most twice until a restart.
+    /// Adds `row` if the set does not contain it. `AllocError` if an allocation fails; the rows are then as they were. Costs O(numbers of
+    /// the row), and a look-up by its hash if there are more than a few rows. If the row does not fit into the words of the others, all
+    /// rows are packed again. That happens at most twice until a restart.
     pub fn put(&mut self, row: &[usize]) -> Result<(), AllocError>
         ensures put { OnOk result (IsPut row.now self.old self.new) }
         ensures err { OnErr result (self.new ≡ self.old) }
@@ -306,7 +306,7 @@ impl RowSet {
         self.put_as_list(list)
     }
 
-    // Puts the row with the others, if it is not there, as a word; or returns that it is not a word.
+    // Adds `row` as a word if the set does not contain it. Returns false and does nothing if the row does not fit in a word.
     fn put_packed(&mut self, row: &[usize]) -> Result<bool, AllocError>
         ensures put { IfOk result (λ is_put. is_put ≡ true → IsPut row.now self.old self.new) }
         ensures not_put { IfOk result (λ is_put. is_put ≡ false → self.new ≡ self.old) }
@@ -321,7 +321,7 @@ impl RowSet {
         Ok(false)
     }
 
-    // Writes all rows again, with all bits of a word. Returns false and does nothing if this was done before, if rows are lists, or if a
+    // Packs all rows again, to use the whole word. Returns false and does nothing if this was done before, if the rows are lists, or if a
     // number would not fit.
     fn repack_whole(&mut self) -> Result<bool, AllocError>
         ensures { self.new ≡ self.old }
@@ -341,7 +341,7 @@ impl RowSet {
         }
     }
 
-    // Puts the list with the others, all as lists.
+    // Adds `list` if the set does not contain it, and turns all rows into lists first.
     fn put_as_list(&mut self, list: Vec<usize>) -> Result<(), AllocError>
         ensures put { OnOk result (IsPut list.items self.old self.new) }
         ensures err { OnErr result (self.new ≡ self.old) }
@@ -354,8 +354,8 @@ impl RowSet {
         self.lists.put(self.alloc, list)
     }
 
-    /// Adds a copy of the row at `from` that has `to` as its first number, and `slot` at the place `place`, if the row has zero; unless
-    /// that row is there. `AllocError` if memory was refused: then the rows are as they were. Costs what [`put`](Self::put) costs.
+    /// Adds a copy of the row at index `from`, unless the set contains it. The copy has `to` as its first number, and `slot` instead of the
+    /// zero at `place`. `AllocError` if an allocation fails; the rows are then as they were. Costs what [`put`](Self::put) costs.
     #[inline(never)]
     pub fn put_next(
         &mut self,
@@ -382,7 +382,8 @@ impl RowSet {
         self.put_next_by_list(from, to, place, slot)
     }
 
-    // The same, by way of a list.
+    // Adds a copy of the row at index `from`, unless the set contains it. The copy has `to` as its first number, and `slot` at `place`.
+    // Makes a list first.
     #[inline(never)]
     fn put_next_by_list(
         &mut self,
@@ -405,9 +406,9 @@ impl RowSet {
         self.put(&next)
     }
 
-    /// Adds each row of `other` whose number at this place is marked, without that number. A mark belongs to the number at its place in the
-    /// list; a number beyond the list has no mark. `AllocError` if there is no memory: then some of the rows are added. Costs a
-    /// [`put`](Self::put) for each of these rows, and a look at one number of each other row.
+    /// Adds each row of `other` whose number at `place` is marked, without this number, if the set does not contain it. `marks` has a flag
+    /// for each number; a number beyond its end is not marked. `AllocError` if an allocation fails; some of the rows have been added then.
+    /// Costs a call of [`put`](Self::put) for each of these rows, and a look at one number of each other row.
     pub fn put_marked(
         &mut self,
         other: &RowSet,
@@ -436,7 +437,8 @@ impl RowSet {
         self.put_marked_by_list(other, place, marks)
     }
 
-    // The same, row by row.
+    // Adds each row of `other` whose number at `place` is marked, without this number, if the set does not contain it. Reads each row as a
+    // list.
     #[inline(never)]
     fn put_marked_by_list(
         &mut self,
@@ -455,7 +457,7 @@ impl RowSet {
         Ok(())
     }
 
-    // Whether the row at `at` has a number at this place, and the number a mark.
+    // Returns whether the row at index `at` has a marked number at `place`.
     fn has_marked(&self, at: usize, place: usize, marks: &[bool]) -> bool
         requires { at < length self.now }
         ensures marked { result ≡ is_marked place marks.now (get_or self.now at []) }
@@ -464,7 +466,7 @@ impl RowSet {
         place < self.long_at(at) && has_mark(marks, self.number(at, place))
     }
 
-    // Puts the row at `from` of the other set, without its number at this place, if that is not there, by way of a list.
+    // Adds the row at index `from` of `other`, without its number at `place`, if the set does not contain it. Makes a list first.
     #[inline(never)]
     fn put_without_by_list(
         &mut self,
@@ -484,7 +486,8 @@ impl RowSet {
         self.put(&left)
     }
 
-    // How many bits of a word the numbers of a row may have in all: half of it, if that was enough until now.
+    // Returns how many bits of a word the numbers of a row may use. It is half of the word if this was enough until now, and otherwise the
+    // whole word.
     fn usable_bits(&self) -> usize
         ensures { result ≤ 128 }
     {
@@ -495,7 +498,7 @@ impl RowSet {
         }
     }
 
-    /// Adds a zero to the end of each row, if there is room for it without new memory, and returns whether. Takes constant time.
+    /// Appends a zero to each row, if the words have room for it, and returns whether they had. Does not allocate. Takes constant time.
     pub fn lengthen(&mut self) -> bool
         ensures longer { IsTrue result → self.new ≡ map (λ row. row ++ 0 ∷ []) self.old }
         ensures same { result ≡ false → self.new ≡ self.old }
@@ -510,7 +513,7 @@ impl RowSet {
         true
     }
 
-    /// Each set gets the rows of the other. Takes constant time.
+    /// Exchanges the rows of both sets. Takes constant time.
     pub fn trade(&mut self, other: &mut RowSet)
         ensures mine { self.new ≡ other.old }
         ensures others { other.new ≡ self.old }
@@ -526,7 +529,7 @@ impl RowSet {
         swap(&mut self.lists, &mut other.lists);
     }
 
-    /// Keeps the first `len` rows. Costs at most O(rows).
+    /// Keeps only the first `len` rows. Costs at most O(rows).
     #[inline(never)]
     pub fn truncate(&mut self, len: usize)
         ensures { self.new ≡ take len self.old }
@@ -538,7 +541,7 @@ impl RowSet {
         }
     }
 
-    /// The same rows, with memory of their own. Costs O(all their numbers).
+    /// Returns the same rows, with memory of their own. Costs O(all their numbers).
     pub fn copied(&self) -> Result<RowSet, AllocError>
         ensures { IfOk result (λ rows. rows ≡ self.now) }
     {

@@ -1,4 +1,4 @@
 mod Bounded
 mod Outcomes
-mod Reading
+pub mod Reading
 mod Starting

@@ -1,10 +1,10 @@
-//! Operations on two values.
+//! Operators on two values.
 ghost use Rattle.std.specs.Prelude.{◌≡◌, ◌+ℤ◌, ◌-ℤ◌, Some};
 ghost use Rattle.rules.specs.Meaning.{fitting, remainder, number_of, combined, combined_integers, truth_in};
 
 use crate::term::Operator;
 
-// The sum, if it is an integer of 64 bits.
+// Returns the sum, if it fits in 64 bits.
 fn sum(a: i64, b: i64) -> Option<Option<i64>>
     ensures { result ≡ fitting (a +ℤ b) }
 {
@@ -14,7 +14,7 @@ fn sum(a: i64, b: i64) -> Option<Option<i64>>
     }
 }
 
-// The difference, if it is an integer of 64 bits.
+// Returns the difference, if it fits in 64 bits.
 fn difference(a: i64, b: i64) -> Option<Option<i64>>
     ensures { result ≡ fitting (a -ℤ b) }
 {
@@ -24,7 +24,7 @@ fn difference(a: i64, b: i64) -> Option<Option<i64>>
     }
 }
 
-// The remainder, from 0 on, of a division by a positive number.
+// Returns the remainder of `a` divided by `b`, which is at least 0, if `b` is positive.
 fn remainder(a: i64, b: i64) -> Option<Option<i64>>
     ensures { result ≡ remainder a b }
 {
@@ -35,14 +35,14 @@ fn remainder(a: i64, b: i64) -> Option<Option<i64>>
     }
 }
 
-// 1 for true, and 0 for false.
+// Returns 1 for true, and 0 for false.
 fn number_of(truth: bool) -> Option<i64>
     ensures { result ≡ number_of truth }
 {
     if truth { Some(1) } else { Some(0) }
 }
 
-/// Whether the value says true or false: 1 and 0 do.
+/// Returns the truth value that the value stands for: 1 is true, 0 is false, and other values have none.
 pub fn truth_in(value: Option<i64>) -> Option<bool>
     ensures { result ≡ truth_in value }
 {
@@ -53,7 +53,7 @@ pub fn truth_in(value: Option<i64>) -> Option<bool>
     }
 }
 
-// The operator on two integers.
+// Returns the result of the operator on two integers, if it has one.
 fn combined_integers(operator: Operator, a: i64, b: i64) -> Option<Option<i64>>
     ensures { result ≡ combined_integers operator a b }
 {
@@ -72,7 +72,7 @@ fn combined_integers(operator: Operator, a: i64, b: i64) -> Option<Option<i64>>
     }
 }
 
-/// The operator on two values, if that has a value.
+/// Returns the result of the operator on two values, if it has one.
 pub fn combined(operator: Operator, a: Option<i64>, b: Option<i64>) -> Option<Option<i64>>
     ensures { result ≡ combined operator a b }
 {

@@ -6,7 +6,7 @@ use crate::rule::{Assignment, Limits, Variable};
 use crate::rules::{State, put};
 use crate::value::value_of;
 
-// Whether the value is within the limits, if there are any.
+// Returns whether the value is an integer within the limits. Without limits every value is.
 fn is_within(limits: Option<Limits>, value: Option<i64>) -> bool
     ensures { result ≡ is_within limits value }
 {
@@ -19,7 +19,8 @@ fn is_within(limits: Option<Limits>, value: Option<i64>) -> bool
     }
 }
 
-// The value that the assignment leaves in its variable: none if there is none, if it leaves the limits, or if there is no such variable.
+// Returns the value that the assignment gives to its variable. `None` if its term has no value, if the value is outside the limits, or if
+// there is no such variable.
 fn kept_value(
     variables: &[Variable],
     before: &[Option<i64>],
@@ -39,7 +40,8 @@ fn kept_value(
     }
 }
 
-/// The state after these assignments, from the state before: none if one of them does not hold. All values are computed in the state before.
+/// Returns the state after the assignments. Each of them computes its value in the state `before`. `None` if one of the assignments has no
+/// value (`kept_value`).
 pub fn state_after(
     variables: &[Variable],
     before: &State,

@@ -9,7 +9,7 @@ use crate::rule::{Answer, Case, Variable};
 use crate::rules::State;
 use crate::value::value_of;
 
-// The answer is this value, or nil as well.
+// Returns the answers that consist of this value and nil.
 fn or_nil(value: Option<i64>) -> Found
     ensures { result ≡ or_nil value }
 {
@@ -19,7 +19,7 @@ fn or_nil(value: Option<i64>) -> Found
     }
 }
 
-// The answer that is found, if its value exists.
+// Returns the answers that `answer` allows, if its term has a value.
 fn found_by(answer: &Answer, before: &[Option<i64>], given: &[i64]) -> Option<Found>
     ensures { result ≡ found_by answer.now before.now given.now }
 {
@@ -36,7 +36,7 @@ fn found_by(answer: &Answer, before: &[Option<i64>], given: &[i64]) -> Option<Fo
     }
 }
 
-// The outcome of the case, if it holds: the state after it and what it finds. A read sets nothing.
+// Returns the outcome of the case, if the case holds: the state after it and the found answers. If `reads`, the case sets no variable.
 fn case_outcome(
     variables: &[Variable],
     before: &State,
@@ -56,7 +56,7 @@ fn case_outcome(
     Some((after, found))
 }
 
-/// The outcome of the first case that holds.
+/// Returns the outcome of the first case that holds, if one does.
 pub fn first_outcome(
     variables: &[Variable],
     before: &State,

@@ -1,19 +1,20 @@
-//! What an operation finds.
+//! The answers that an operation finds.
 ghost use Rattle.std.specs.Prelude.{◌↔◌, IsTrue};
 ghost use Rattle.rules.specs.Meaning.{Fits};
 
-/// The answers that an operation finds, if it takes place. Different ones fit different answers.
+/// The answers that an operation may have if it takes place.
 #[derive(Clone, Copy, Debug, PartialEq, Eq, Hash)]
 pub enum Found {
-    /// Nothing to tell: fits every answer.
+    /// Every answer fits.
     Anything,
-    /// Fits this value alone.
+    /// Only this value fits.
     Exactly(Option<i64>),
-    /// Fits this integer, and nil, which says nothing.
+    /// Only this integer and nil fit. Nil gives no information.
     OrNil(i64),
 }
 
-/// Whether the answer, nil or an integer, fits what was found. An answer of another form fits [`Found::Anything`] alone. Takes constant time.
+/// Returns whether the answer, which is nil or an integer, fits the found answers. An answer of any other form fits only
+/// [`Found::Anything`]. Takes constant time.
 pub fn fits(found: Found, answer: Option<i64>) -> bool
     ensures { IsTrue result ↔ Fits found answer }
 {

@@ -1,8 +1,8 @@
-//! The rules of an object: its variables, its operations, and for each operation the cases that say what it does.
+//! The rules of an object: its variables, its operations, and the cases that define each operation.
 //!
-//! The first case that holds is what the operation does ([`Rules::outcome`]). So an operation has at most one outcome: the state after it, and
-//! what it finds. `specs/Meaning.antt` defines the meaning, for every value of [`Rules`], accepted by a reader or not. A
-//! word that names nothing has no value, and a case with such a word does not hold.
+//! An operation does what its first case that holds says ([`Rules::outcome`]). So an operation has at most one outcome: the state after it,
+//! and the found answers. `specs/Meaning.antt` defines this meaning for every value of [`Rules`], whether a reader accepts it or not. A
+//! term that names no variable or integer has no value, and a case with such a term does not hold.
 //!
 //! No call of this crate allocates.
 #![tactic(auto)]

@@ -2,10 +2,10 @@
 
 use crate::term::Term;
 
-/// The number of the name `read`. An operation of this name leaves the state as it was, whatever its cases set.
+/// The number of the name `read`. An operation of this name does not change the state, whatever its cases set.
 pub const READ: u8 = 0;
 
-/// The least and the greatest value of a variable, both of them included.
+/// The least and the greatest value of a variable, both inclusive.
 #[derive(Clone, Copy, Debug, PartialEq, Eq)]
 pub struct Limits {
     pub least: i64,
@@ -15,31 +15,32 @@ pub struct Limits {
 /// A variable of the state.
 #[derive(Clone, Copy, Debug, PartialEq, Eq)]
 pub struct Variable {
-    /// The value that it holds at first: nil or an integer.
+    /// The value of the variable in the start state: nil or an integer.
     pub start: Option<i64>,
-    /// If it has limits, it is an integer within them after each operation that sets it.
+    /// The limits of the variable, if it has any. After each operation that sets the variable, its value is an integer within them.
     pub limits: Option<Limits>,
 }
 
-/// A variable, by its place, and the value that it holds afterwards, computed in the state before.
+/// An assignment: the place of a variable, and the term for its new value. The term is computed in the state before the operation.
 #[derive(Drop)]
 pub struct Assignment {
     pub variable: u8,
     pub value: Term,
 }
 
-/// The answer that the ok of an operation must have.
+/// The answers that the ok of an operation may have.
 #[derive(Drop)]
 pub enum Answer {
-    /// Anything.
+    /// Every answer.
     Any,
-    /// This value.
+    /// Only the value of this term.
     Exactly(Term),
-    /// This value, or nil, which says nothing.
+    /// The value of this term, and nil. Nil gives no information.
     OrNil(Term),
 }
 
-/// A case of an operation. It holds if its condition is 1, each value in it exists, and each variable that it sets stays in its limits.
+/// A case of an operation. It holds if its condition is 1, each term in it has a value, and each variable that it sets stays within its
+/// limits.
 #[derive(Drop)]
 pub struct Case {
     pub when: Term,
@@ -47,7 +48,7 @@ pub struct Case {
     pub answer: Answer,
 }
 
-/// An operation: the number of its name, how many integers are given to it, and its cases in order.
+/// An operation: the number of its name, the number of integers that are given to it, and its cases in order.
 #[derive(Drop)]
 pub struct Operation {
     pub name: u8,

@@ -7,13 +7,13 @@ use crate::cases::first_outcome;
 use crate::finding::Found;
 use crate::rule::{Case, Operation, READ, Variable};
 
-/// The most variables of a state.
+/// The maximum number of variables of a state.
 pub const MOST_VARIABLES: usize = 8;
 
-/// The value of each variable, nil or an integer. A place without a variable holds nil.
+/// The value of each variable: nil or an integer. A place without a variable has nil.
 pub type State = [Option<i64>; MOST_VARIABLES];
 
-/// Puts the value in this place, if it is there. Takes constant time.
+/// Puts `value` at `place` of the state. Does nothing if there is no such place. Takes constant time.
 pub fn put(state: &mut State, place: usize, value: Option<i64>)
     ensures { state.new ≡ slice_set state.old place value }
 {
@@ -22,15 +22,15 @@ pub fn put(state: &mut State, place: usize, value: Option<i64>)
     }
 }
 
-/// The rules of an object: its variables by their places, and its operations. Variables from the place [`MOST_VARIABLES`] on have no value. If
-/// several have one name, the first counts.
+/// The rules of an object: its variables by place, and its operations. Variables from place [`MOST_VARIABLES`] on have no value. If several
+/// operations have the same name, only the first one counts.
 #[derive(Drop)]
 pub struct Rules {
     pub variables: Vec<Variable>,
     pub operations: Vec<Operation>,
 }
 
-// The operation of this name.
+// Returns the first operation of this name, if there is one.
 fn operation_named(operations: &[Operation], name: u8) -> Option<&Operation>
     ensures { option_copied result ≡ operation_named operations.now name }
 {
@@ -42,7 +42,7 @@ fn operation_named(operations: &[Operation], name: u8) -> Option<&Operation>
     None
 }
 
-// Whether none of the cases sets a variable.
+// Returns whether no case sets a variable.
 fn sets_nothing(cases: &[Case]) -> bool
     ensures { result ≡ sets_nothing cases.now }
 {
@@ -55,7 +55,7 @@ fn sets_nothing(cases: &[Case]) -> bool
 }
 
 impl Rules {
-    /// The state at first. Takes no memory, and constant time.
+    /// Returns the start state. Does not allocate. Takes constant time.
     pub fn start(&self) -> State
         ensures { result ≡ start_of self.now }
     {
@@ -66,9 +66,9 @@ impl Rules {
         state
     }
 
-    /// The outcome of the operation of this name in the state, with these integers given: the state after it and what it finds. None if it
-    /// can't take place: if there is no such operation, if other than its number of integers are given, or if no case holds. Takes no memory,
-    /// and time in proportion to the words of its cases.
+    /// Returns the outcome of the operation `name` in `state` with the integers `given`: the state after it and the found answers. `None`
+    /// if the operation cannot take place: there is no operation of this name, `given` has the wrong number of integers, or no case holds.
+    /// Does not allocate. Costs O(size of its cases).
     pub fn outcome(&self, name: u8, given: &[i64], state: &State) -> Option<(State, Found)>
         ensures { result ≡ outcome_of self.now name given.now state.now }
     {
@@ -85,8 +85,8 @@ impl Rules {
         )
     }
 
-    /// Whether an operation of this name leaves each state as it was, by its cases: they set nothing, or it is a read, or there is none. Takes
-    /// time in proportion to its cases.
+    /// Returns whether an operation of this name never changes the state. This is so if its cases set nothing, if its name is `read`, or if
+    /// there is no such operation. Costs O(cases).
     pub fn reads(&self, name: u8) -> bool
         ensures { result ≡ reads self.now name }
     {

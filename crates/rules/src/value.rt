@@ -5,8 +5,8 @@ ghost use Rattle.rules.specs.Meaning.{value_of};
 use crate::arithmetic::{combined, truth_in};
 use crate::term::Term;
 
-/// The value of the term, nil or an integer, in this state and with these integers given; none if it has no value. A variable or an integer
-/// that is not there has none. Takes no memory, and time in proportion to the words of the term.
+/// Returns the value of the term in `state` with the integers `given`: nil or an integer. `None` if the term has no value, such as a
+/// variable or an integer that does not exist. Does not allocate. Costs O(size of the term).
 pub fn value_of(term: &Term, state: &[Option<i64>], given: &[i64]) -> Option<Option<i64>>
     ensures { result ≡ value_of term.now state.now given.now }
 {

@@ -11,18 +11,18 @@ use Rattle.clients.specs.Runs.{HasNoRun, IsRun}
 use Rattle.report.specs.Report.{IsReport}
 use Rattle.check_command.specs.ExitStatus.{status_of}
 
--- the text is the report of the machine's history, and the status that of the verdict
+-- the text is the report of the machine's history, and the status is that of the verdict
 pub record IsRunText (m : Machine) (text : List ℕ) (status : ℕ) : Type 0 where
   pub report : IsReport m.judged text
   pub verdict : Verdict
   pub judged : IsVerdictOn m.judged verdict
   pub status_is : status ≡ status_of verdict
 
--- it is the line of the refusal; or that of out of memory, if there was none for the line
+-- the text is the line of the refusal, or the line of NoMemory if there was no memory for the first
 abbrev pub IsRefusalText : Refusal → List ℕ → Type 0
 IsRefusalText why text = (text ≡ refusal_line why) ⊎ (text ≡ refusal_line NoMemory)
 
--- the possible text of a run: its report, or why there was none, by the first test that it does not pass
+-- the possible text of a run: its report, or the line of a refusal, by the first test that fails
 abbrev pub MaySay : Setup → List ℕ → ℕ → Type 0
 MaySay setup text status =
     (IsSetup setup

@@ -1,4 +1,4 @@
-//! A run of clients against the store in the process.
+//! A run of clients against the store inside the process.
 ghost use Rattle.std.specs.Prelude.{◌≡◌, ◌≢◌, ℕ, List, IfOk, false};
 ghost use Rattle.test_store.specs.declared.outcome.Mode.TheVariants.{Strict};
 ghost use Rattle.harness.specs.Setups.{setup_of};
@@ -17,13 +17,13 @@ use std::mem::forget;
 use std::sync::Wait;
 use std::thread::Threads;
 
-/// Runs clients and the nemesis against a store in the process, each in a thread of its own. It writes and flushes the report of the
-/// history, and gives the exit status: that of the verdict. Or it writes and flushes the line of a refusal, and gives 3, which it is too if
-/// the writer has failed.
+/// Runs clients and the nemesis against a store inside the process, each in a thread of its own. Writes and flushes the report of the
+/// history, and returns the status of the verdict. If the run is refused, writes and flushes the line of the refusal, and returns 3. The
+/// status is also 3 if the writer has failed.
 ///
-/// If the store is strict, the status is never that of an illegal verdict, in whatever order the threads run. A thread that can't be
-/// started is run by another one. Nothing is written before all clients have ended. It waits for them and for the writer, and costs what
-/// [`run_trial`] and [`report`] cost. The watch gets the progress meanwhile, and the observer the end.
+/// If the store is strict, the status is never that of an illegal verdict, in whatever order the threads run. If a thread cannot be
+/// started, another thread does its work. Nothing is written before all clients have ended. Waits for them and for the writer, and costs
+/// what [`run_trial`] and [`report`] cost. The watch gets the progress of the run, and the observer its end.
 pub fn run_store<
     X: Threads + Wait + Sync,
     W: Write + Failed + Flushes,
@@ -49,8 +49,8 @@ pub fn run_store<
     }
 }
 
-// The report of the object's history, and the status of its verdict. A run is the last thing that its process does, so the object's memory
-// goes back with the process.
+// Returns the report of the object's history, and the status of its verdict. A run is the last work of its process, so the object's memory
+// is freed with the process.
 fn report_text<L: Observer>(
     alloc: Global,
     core: Core,
@@ -63,7 +63,7 @@ fn report_text<L: Observer>(
     told
 }
 
-// The same, of an object that stays.
+// Returns the report of the object's history, and the status of its verdict. Does not drop the object.
 fn told_by<L: Observer>(
     alloc: Global,
     core: &Core,

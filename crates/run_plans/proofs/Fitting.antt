@@ -3,7 +3,7 @@ use Rattle.std.proofs.Common.{refl, ℕ, zero, suc, ◌+◌, ◌≤◌, Bool, tr
 use Rattle.std.specs.Prelude.{nat_eq, if◌then◌else◌}
 use Rattle.std.proofs.lemmas.Bool.Decides.{nat_tests}
 use Rattle.kinds.specs.declared.model_kind.ModelKind.{ModelKind}
-use Rattle.kinds.specs.declared.model_kind.ModelKind.TheVariants.{Register, CasRegister, Mutex, FifoQueue, UnorderedQueue, WideRegister, WideCasRegister, WideSet, WideFifoQueue, WideUnorderedQueue, Set}
+use Rattle.kinds.specs.declared.model_kind.ModelKind.TheVariants.{Register, CasRegister, Mutex, FifoQueue, UnorderedQueue, WideRegister, WideCasRegister, WideSet, WideFifoQueue, WideUnorderedQueue, Set, Own}
 use Rattle.generators.specs.declared.item.Item.{Item}
 use Rattle.generators.specs.Generators.{Generator, these, AllItemsOf, Each}
 use Rattle.test_store.specs.Store.{IsCount, AreOnce, AreBelow}
@@ -32,6 +32,7 @@ key_passes (IsPresent n) WideCasRegister key = ((tt, tt), ((tt, (tt, (tt, tt))),
 key_passes (IsPresent n) WideSet key = ((tt, (tt, (tt, tt))), ((tt, tt), tt))
 key_passes (IsPresent n) WideFifoQueue key = ((tt, (tt, (tt, tt))), ((tt, tt), tt))
 key_passes (IsPresent n) WideUnorderedQueue key = ((tt, (tt, (tt, tt))), ((tt, tt), tt))
+key_passes (IsPresent n) (Own object) key = tt
 key_passes IsInTables Register key = ((tt, tt), ((tt, (tt, (tt, tt))), tt))
 key_passes IsInTables CasRegister key = ((tt, tt), ((tt, (tt, (tt, tt))), ((tt, (tt, (tt, tt))), tt)))
 key_passes IsInTables Mutex key = ((tt, tt), ((tt, tt), tt))
@@ -43,6 +44,7 @@ key_passes IsInTables WideCasRegister key = ((tt, tt), ((tt, (tt, (tt, tt))), ((
 key_passes IsInTables WideSet key = ((tt, (tt, (tt, tt))), ((tt, tt), tt))
 key_passes IsInTables WideFifoQueue key = ((tt, (tt, (tt, tt))), ((tt, tt), tt))
 key_passes IsInTables WideUnorderedQueue key = ((tt, (tt, (tt, tt))), ((tt, tt), tt))
+key_passes IsInTables (Own object) key = tt
 
 keys_pass : (test : Test) (kind : ModelKind) (n : ℕ) → AllItemsOf (Passes test) (these (on_keys kind n))
 keys_pass test kind zero = tt

@@ -7,14 +7,8 @@ use Rattle.std.specs.Result.{OkIff, result_unwrap_or}
 use Rattle.std.specs.Str.Parse.{digits_value, ParsesUnsigned}
 use Rattle.std.proofs.lemmas.Bool.{cases_lt}
 use Rattle.std.proofs.lemmas.Bool.Decides.{nat_tests}
-use Rattle.std.specs.Str.{bytes_eq}
-use Rattle.std.proofs.lemmas.Slice.Eq.{bytes_eq-Decides}
 use Rattle.std.proofs.lemmas.Str.Parse.{IsNumeralModel, numerals_by_value, parse_digits}
-use Rattle.models.specs.Names.{Finds}
-use Rattle.kinds.specs.declared.model_kind.ModelKind.{ModelKind}
-use Rattle.kinds.specs.declared.model_kind.ModelKind.TheVariants.{Register, CasRegister, Mutex, FifoQueue, Set, UnorderedQueue, WideRegister, WideCasRegister, WideSet, WideFifoQueue, WideUnorderedQueue}
-use Rattle.kinds.specs.Kinds.{name_of}
-use Rattle.run_plans.specs.Options.{kind_spelled, after_byte, are_digits, digits_spelled, number_spelled, count_behind, count_spelled}
+use Rattle.run_plans.specs.Options.{after_byte, are_digits, digits_spelled, number_spelled, count_behind, count_spelled}
 
 own : IsNumeralModel (λ ds. list_all is_ascii_digit ds ≡ true) (digits_value 10)
 own = numerals_by_value _ (search rules)
@@ -51,28 +45,3 @@ pub no_minus : (text : List ℕ) (r : Option ℕ) → ((rest : List ℕ) → tex
     → option_map (λ n. min n (2 ^ 32 - 1)) r ≡ count_spelled text
 no_minus text r other is =
     ap (option_map (λ n. min n (2 ^ 32 - 1))) is ∙ cut_again (number_spelled text) ∙ ap (λ o. count_behind o text) (sym (not_after 45 text other))
-
--- the kind of a name
-unnamed : (text : List ℕ) (kind : ModelKind) → (text ≡ name_of kind → ⊥) → bytes_eq text (name_of kind) ≡ false
-unnamed text kind other = go (bytes_eq text (name_of kind)) refl where
-  go : (b : Bool) → bytes_eq text (name_of kind) ≡ b → b ≡ false
-  go false is = refl
-  go true is = absurd (other ((bytes_eq-Decides text (name_of kind)).0 is))
-
-named_so : (kind : ModelKind) → kind_spelled (name_of kind) ≡ Some kind
-named_so Register = refl
-named_so CasRegister = refl
-named_so Mutex = refl
-named_so FifoQueue = refl
-named_so Set = refl
-named_so UnorderedQueue = refl
-named_so WideRegister = refl
-named_so WideCasRegister = refl
-named_so WideSet = refl
-named_so WideFifoQueue = refl
-named_so WideUnorderedQueue = refl
-
-pub named : (text : List ℕ) (found : Option ModelKind) → Finds found (λ kind. text ≡ name_of kind) → found ≡ kind_spelled text
-named text (Some kind) is = sym (ap kind_spelled is ∙ named_so kind)
-named text None other =
-    rw (unnamed text Register (other Register), unnamed text CasRegister (other CasRegister), unnamed text Mutex (other Mutex), unnamed text FifoQueue (other FifoQueue), unnamed text Set (other Set), unnamed text UnorderedQueue (other UnorderedQueue), unnamed text WideRegister (other WideRegister), unnamed text WideCasRegister (other WideCasRegister), unnamed text WideSet (other WideSet), unnamed text WideFifoQueue (other WideFifoQueue), unnamed text WideUnorderedQueue (other WideUnorderedQueue)) refl

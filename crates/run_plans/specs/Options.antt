@@ -7,8 +7,8 @@ use Rattle.std.specs.Str.Parse.{digits_value}
 use Rattle.edn.specs.declared.refusal.Refusal.{Refusal}
 use Rattle.edn.specs.declared.refusal.Refusal.TheVariants.{BadBudget, BadConcurrency, NoSuchReplica}
 use Rattle.kinds.specs.declared.model_kind.ModelKind.{ModelKind}
-use Rattle.kinds.specs.declared.model_kind.ModelKind.TheVariants.{Register, CasRegister, Mutex, FifoQueue, Set, UnorderedQueue, WideRegister, WideCasRegister, WideSet, WideFifoQueue, WideUnorderedQueue}
-use Rattle.kinds.specs.Kinds.{name_of}
+use Rattle.kinds.specs.declared.model_kind.ModelKind.TheVariants.{Register}
+use Rattle.object_kinds.specs.Naming.{kind_named}
 use Rattle.test_store.specs.declared.outcome.Mode.{Mode}
 use Rattle.test_store.specs.declared.outcome.Mode.TheVariants.{Strict, Sloppy}
 use Rattle.machine.specs.Machine.{Setup}
@@ -24,32 +24,32 @@ use Rattle.run_plans.specs.declared.options.RunTexts.{RunTexts}
 
 -- Numbers
 
--- digits alone, and one at least
+-- the text has only digits, and at least one
 abbrev pub are_digits : List ℕ → Bool
 are_digits text = nat_lt 0 (length text) && list_all is_ascii_digit text
 
--- the number that they spell
+-- the number of the digits, or None
 abbrev pub digits_spelled : List ℕ → Option ℕ
 digits_spelled text = if are_digits text then Some (digits_value 10 text) else None
 
--- the rest behind this byte, if the text begins with it
+-- the text after this byte, or None if the text does not begin with it
 abbrev pub after_byte : ℕ → List ℕ → Option (List ℕ)
 after_byte byte [] = None
 after_byte byte (first ∷ rest) = if first == byte then Some rest else None
 
--- a plus may stand before the digits
+-- the number of the digits, which a plus may precede
 abbrev pub number_spelled : List ℕ → Option ℕ
 number_spelled text = digits_spelled (unwrap_or (after_byte 43 text) text)
 
 abbrev pub is_from_to : ℕ → ℕ → ℕ → Bool
 is_from_to least most n = nat_le least n && nat_le n most
 
--- such a number from the least to the most
+-- the number, if it is at least `least` and at most `most`
 abbrev pub number_within : ℕ → ℕ → List ℕ → Option ℕ
 number_within least most text =
     option_and_then (λ n. if is_from_to least most n then Some n else None) (number_spelled text)
 
--- a minus may stand before the digits too. Numbers below 0 count as 0, and those above 2^32 - 1 as that
+-- the number of the digits, which a minus or a plus may precede. A number below 0 counts as 0, and one above 2^32 - 1 as 2^32 - 1
 abbrev pub count_behind : Option (List ℕ) → List ℕ → Option ℕ
 count_behind (Some digits) text = option_map (λ n. 0) (digits_spelled digits)
 count_behind None text = option_map (λ n. min n (2 ^ 32 - 1)) (number_spelled text)
@@ -58,21 +58,6 @@ abbrev pub count_spelled : List ℕ → Option ℕ
 count_spelled text = count_behind (after_byte 45 text) text
 
 -- Names
-
-abbrev pub kind_spelled : List ℕ → Option ModelKind
-kind_spelled text =
-    if bytes_eq text (name_of Register) then Some Register
-    else if bytes_eq text (name_of CasRegister) then Some CasRegister
-    else if bytes_eq text (name_of Mutex) then Some Mutex
-    else if bytes_eq text (name_of FifoQueue) then Some FifoQueue
-    else if bytes_eq text (name_of Set) then Some Set
-    else if bytes_eq text (name_of UnorderedQueue) then Some UnorderedQueue
-    else if bytes_eq text (name_of WideRegister) then Some WideRegister
-    else if bytes_eq text (name_of WideCasRegister) then Some WideCasRegister
-    else if bytes_eq text (name_of WideSet) then Some WideSet
-    else if bytes_eq text (name_of WideFifoQueue) then Some WideFifoQueue
-    else if bytes_eq text (name_of WideUnorderedQueue) then Some WideUnorderedQueue
-    else None
 
 abbrev pub mode_spelled : List ℕ → Option Mode
 mode_spelled text =
@@ -88,27 +73,27 @@ switch_spelled text =
 
 -- Configurations: the tests of the texts, in order
 
--- the text of the option spells a value, and so it goes on
+-- the rest, with the value of the option; or the refusal of the option if its text has no value
 abbrev pub needs : {A B : Type 0} → OptionName → Option A → (A → Result B Misspelled) → Result B Misspelled
 needs option None rest = Err (Unread option)
 needs option (Some x) rest = rest x
 
--- it passes the test, and so it goes on
+-- the rest if the test is true, else the refusal `why`
 abbrev pub allows : {B : Type 0} → Refusal → Bool → Result B Misspelled → Result B Misspelled
 allows why false rest = Err (Refused why)
 allows why true rest = rest
 
--- there is one, and so it goes on
+-- the rest, with the value of the first result, or the refusal of the first result
 abbrev pub result_then : {A B : Type 0} → Result A Misspelled → (A → Result B Misspelled) → Result B Misspelled
 result_then (Err why) rest = Err why
 result_then (Ok x) rest = rest x
 
--- how the object is opened to judge
-abbrev pub judging_spelled : JudgingTexts → Result Setup Misspelled
-judging_spelled texts =
+-- the setup of an object that only judges. The model is a kind of the program, or one of these
+abbrev pub judging_spelled : List ModelKind → JudgingTexts → Result Setup Misspelled
+judging_spelled kinds texts =
     needs Budget (count_spelled texts.budget.now) (λ budget.
     needs Concurrency (count_spelled texts.concurrency.now) (λ concurrency.
-    needs Model (kind_spelled texts.model.now) (λ kind.
+    needs Model (kind_named kinds texts.model.now) (λ kind.
     allows BadBudget (is_from_to 1 65536 budget)
     (allows BadConcurrency (is_from_to 1 64 concurrency)
     (Ok (judging concurrency kind budget))))))
@@ -131,16 +116,16 @@ plan_spelled texts =
       has_faults = has_faults;
     })))))))
 
--- how the object is opened for a run. The nemesis takes one of 64 seats
+-- the setup of the object of a run, whose model is a kind of the program. The nemesis takes one of 64 seats
 abbrev pub run_spelled : RunTexts → Result Setup Misspelled
 run_spelled texts =
-    result_then (judging_spelled texts.judging) (λ judge.
+    result_then (judging_spelled [] texts.judging) (λ judge.
     result_then (plan_spelled texts) (λ plan.
     allows BadConcurrency (nat_le judge.concurrency 63)
     (allows NoSuchReplica (is_from_to 1 7 plan.replicas)
     (Ok (run_setup plan judge)))))
 
--- if no option says otherwise
+-- the setups without options
 abbrev pub default_setup : Setup
 default_setup = judging 2 Register 4096
 

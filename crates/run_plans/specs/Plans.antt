@@ -5,7 +5,7 @@ use Rattle.models.specs.declared.operation.Name.TheVariants.{Read, Write, Cas, A
 use Rattle.models.specs.declared.operation.Part.{Part}
 use Rattle.models.specs.declared.operation.Part.TheVariants.{Nil, Int, Pair}
 use Rattle.kinds.specs.declared.model_kind.ModelKind.{ModelKind}
-use Rattle.kinds.specs.declared.model_kind.ModelKind.TheVariants.{Register, CasRegister, Mutex, FifoQueue, UnorderedQueue, WideRegister, WideCasRegister, WideSet, WideFifoQueue, WideUnorderedQueue, Set}
+use Rattle.kinds.specs.declared.model_kind.ModelKind.TheVariants.{Register, CasRegister, Mutex, FifoQueue, UnorderedQueue, WideRegister, WideCasRegister, WideSet, WideFifoQueue, WideUnorderedQueue, Set, Own}
 use Rattle.events.specs.declared.event.Fault.{Fault}
 use Rattle.events.specs.declared.event.Fault.TheVariants.{Partition, Heal, LoseReplies, Crash, Restart}
 use Rattle.generators.specs.declared.item.Item.TheVariants.{Op}
@@ -13,7 +13,7 @@ use Rattle.generators.specs.Generators.{Generator, ops, mix, limit, these}
 use Rattle.machine.specs.Machine.{Setup}
 use Rattle.run_plans.specs.declared.plan.RunPlan.{RunPlan}
 
--- operations of this name on the key, which have these parts in turn, round and round
+-- operations of this name on the key, which have these parts in rotation
 abbrev pub in_turn : Name → ℕ → List Part → Generator
 in_turn name key parts = ops (map (λ part. Op (record { name = name; key = key; part = part })) parts)
 
@@ -41,20 +41,21 @@ on_key WideCasRegister key =
 on_key WideSet key = in_turn Add key numbers ∷ in_turn Read key nothing ∷ []
 on_key WideFifoQueue key = in_turn Enqueue key numbers ∷ in_turn Dequeue key nothing ∷ []
 on_key WideUnorderedQueue key = in_turn Enqueue key numbers ∷ in_turn Dequeue key nothing ∷ []
+on_key (Own object) key = []
 
--- that of the first n keys, 0 and on, in turn
+-- the generators of the first n keys, from 0 on
 abbrev pub on_keys : ModelKind → ℕ → List Generator
 on_keys kind zero = []
 on_keys kind (suc n) = on_keys kind n ++ on_key kind n
 
--- which faults strike, each with the length of the history from which it is due
+-- the faults of a run, each with the length of the history from which it is due
 abbrev pub faults : Bool → List (ℕ × Fault)
 faults false = []
 faults true =
     (20, Partition ((0 ∷ []) ∷ [])) ∷ (40, Heal) ∷ (60, LoseReplies 1) ∷ (80, Crash 0)
     ∷ (100, Restart 0) ∷ []
 
--- how the one-thread object is opened for a run, which is judged as this setup says
+-- the setup of the object of a run, with the threads, kind and budget of the setup `judging`
 abbrev pub run_setup : RunPlan → Setup → Setup
 run_setup plan judging = record {
   concurrency = judging.concurrency;

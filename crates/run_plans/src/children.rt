@@ -9,7 +9,7 @@ use kinds::ModelKind;
 use models::{Key, Name, Op, Part};
 use std::alloc::{AllocError, Global};
 
-// The operations of clients on `keys` keys of this kind, from 0 on.
+// Returns generators of the clients' operations on `keys` keys of this kind, from key 0 on.
 pub(crate) fn children_of(alloc: Global, kind: ModelKind, keys: u16) -> Result<Vec<Gen>, AllocError>
     ensures { IfOk result (λ children. map generator_of children.items ≡ on_keys kind keys) }
 {
@@ -20,7 +20,7 @@ pub(crate) fn children_of(alloc: Global, kind: ModelKind, keys: u16) -> Result<V
     Ok(children)
 }
 
-// A child for each name that clients call on a key of this kind. It goes round through the parts of the name.
+// Adds a generator for each name that clients call on a key of this kind. It cycles through the parts of the name.
 fn add_children(
     alloc: Global,
     kind: ModelKind,
@@ -55,11 +55,13 @@ fn add_children(
             children.push(numbers(alloc, key, Name::Add)?)?;
             children.push(plain(alloc, key, Name::Read)?)?;
         }
+        // A run has the built-in kinds alone.
+        ModelKind::Own(_) => {}
     }
     Ok(())
 }
 
-// One operation, again and again.
+// Returns a generator that repeats one operation.
 fn plain(alloc: Global, key: Key, name: Name) -> Result<Gen, AllocError>
     ensures { IfOk result (λ child. generator_of child ≡ in_turn name key nothing) }
 {
@@ -67,7 +69,7 @@ fn plain(alloc: Global, key: Key, name: Name) -> Result<Gen, AllocError>
     Ok(Gen::Ops(Cycle::new(items)))
 }
 
-// Operations on the numbers 1 to 3, in turn.
+// Returns a generator of operations on the numbers 1, 2 and 3, in a cycle.
 fn numbers(alloc: Global, key: Key, name: Name) -> Result<Gen, AllocError>
     ensures { IfOk result (λ child. generator_of child ≡ in_turn name key numbers) }
 {
@@ -79,7 +81,7 @@ fn numbers(alloc: Global, key: Key, name: Name) -> Result<Gen, AllocError>
     Ok(Gen::Ops(Cycle::new(items)))
 }
 
-// Operations that lead from each of the numbers 1 to 3 to the next, in turn.
+// Returns a generator of operations from 1 to 2, 2 to 3, and 3 to 1, in a cycle.
 fn pairs(alloc: Global, key: Key, name: Name) -> Result<Gen, AllocError>
     ensures { IfOk result (λ child. generator_of child ≡ in_turn name key pairs) }
 {

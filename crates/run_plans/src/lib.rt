@@ -1,5 +1,5 @@
-//! The actions of the clients and the nemesis of a run: which operations are drawn on which keys, and which faults strike. It also gives
-//! the texts of options their meaning.
+//! The actions of the clients and the nemesis of a run: the operations that are drawn on each key, and the faults that strike. The crate
+//! also gives the texts of options their meaning.
 //!
 //! A call allocates only if its result can be `AllocError`, or a refusal because memory ran out.
 #![tactic(auto)]

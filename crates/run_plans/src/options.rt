@@ -1,19 +1,21 @@
-//! The configuration of the one-thread object in the texts of options.
-ghost use Rattle.std.specs.Prelude.{◌≡◌, ◌⊎◌, ◌≤◌, Ok, Err, IfOk, IfErr, IsOk, MatchResult};
+//! The configuration of the one-thread object, given by the texts of options.
+ghost use Rattle.std.specs.Prelude.{◌≡◌, ◌⊎◌, ◌≤◌, [], Ok, Err, IfOk, IfErr, IsOk, MatchResult};
 ghost use Rattle.edn.specs.declared.refusal.Refusal.TheVariants.{NoMemory};
 ghost use Rattle.harness.specs.Setups.{setup_of, IsSetup};
 ghost use Rattle.run_plans.specs.Options.{default_run, default_setup, judging_spelled, plan_spelled, run_spelled};
 
 use crate::plan::RunPlan;
-use crate::spelling::{byte_of, count_in, kind_in, mode_in, switch_in, within};
+use crate::spelling::{byte_of, count_in, mode_in, switch_in, within};
 use edn::Refusal;
 use events::MOST_REPLICAS;
 use harness::Config;
+use kinds::ModelKind;
 use monitor::MOST_ENDS;
+use object_kinds::kind_named;
 use processes::MOST_THREADS;
 use std::alloc::Global;
 
-// Clients of a run at most: of the 64 seats of a board the nemesis takes one.
+// The maximum number of clients of a run: the nemesis takes one of the 64 seats of a board.
 const MOST_CLIENTS: u32 = 63;
 
 const MOST_SEED: u64 = 0x7fff_ffff_ffff_ffff;
@@ -45,12 +47,12 @@ pub enum OptionName {
     Faults,
 }
 
-/// Why texts spell no configuration.
+/// The reason why texts spell no configuration.
 #[derive(Drop)]
 pub enum Misspelled {
-    /// The text of this option is none that it takes.
+    /// The option does not accept its text.
     Unread(OptionName),
-    /// A number is out of its limits, or memory was refused.
+    /// A number is outside its limits, or an allocation failed.
     Refused(Refusal),
 }
 
@@ -63,9 +65,9 @@ pub struct JudgingTexts<'a> {
 }
 
 impl JudgingTexts<'_> {
-    /// Those of options that are not given.
+    /// Returns the texts of options that are not given.
     pub fn defaults() -> JudgingTexts<'static>
-        ensures { judging_spelled result ≡ Ok default_setup }
+        ensures { judging_spelled [] result ≡ Ok default_setup }
     {
         JudgingTexts {
             budget: "4096",
@@ -74,17 +76,19 @@ impl JudgingTexts<'_> {
         }
     }
 
-    /// How the one-thread object is opened with these texts; it only judges then. A number may have a plus
-    /// before it, and a minus. It takes no memory, and the time of the texts.
+    /// Returns the configuration that these texts spell, of an object that only judges. The model is a kind of the program, or one of
+    /// `kinds`, which a file of objects declares. A number may begin with a plus or a minus. Does not allocate. Costs O(length of the texts),
+    /// and O(kinds).
     ///
     /// # Errors
     ///
-    /// [`Misspelled::Unread`] of the first text, in the order budget, concurrency, model, that is not a number or a name of a kind. Else
-    /// [`Refusal::BadBudget`] if the budget is not 1 to 65,536, else [`Refusal::BadConcurrency`] if the concurrency is not 1 to 64.
-    pub fn config(&self, alloc: Global) -> Result<Config, Misspelled>
+    /// [`Misspelled::Unread`] of the first text, in the order budget, concurrency, model, that is not a number or a name of a kind.
+    /// Otherwise [`Refusal::BadBudget`] if the budget is not 1 to 65,536, otherwise [`Refusal::BadConcurrency`] if the concurrency is not 1
+    /// to 64.
+    pub fn config(&self, alloc: Global, kinds: &[ModelKind]) -> Result<Config, Misspelled>
         ensures spelled { MatchResult result
-            (λ config. judging_spelled self.now ≡ Ok (setup_of config))
-            (λ why. judging_spelled self.now ≡ Err why) }
+            (λ config. judging_spelled kinds.now self.now ≡ Ok (setup_of config))
+            (λ why. judging_spelled kinds.now self.now ≡ Err why) }
         ensures within { IfOk result (λ config. IsSetup (setup_of config)) }
     {
         let Some(budget) = count_in(self.budget) else {
@@ -93,7 +97,7 @@ impl JudgingTexts<'_> {
         let Some(concurrency) = count_in(self.concurrency) else {
             return Err(Misspelled::Unread(OptionName::Concurrency));
         };
-        let Some(kind) = kind_in(self.model) else {
+        let Some(kind) = kind_named(kinds, self.model) else {
             return Err(Misspelled::Unread(OptionName::Model));
         };
         if budget < 1 || budget > MOST_ENDS {
@@ -109,7 +113,7 @@ impl JudgingTexts<'_> {
 /// The texts of the options of a run.
 #[derive(Clone, Copy)]
 pub struct RunTexts<'a> {
-    /// How its history is judged.
+    /// The options by which the history of the run is judged.
     pub judging: JudgingTexts<'a>,
     pub seed: &'a str,
     pub operations: &'a str,
@@ -120,7 +124,7 @@ pub struct RunTexts<'a> {
 }
 
 impl RunTexts<'_> {
-    /// Those of options that are not given.
+    /// Returns the texts of options that are not given.
     pub fn defaults() -> RunTexts<'static>
         ensures { run_spelled result ≡ Ok default_run }
     {
@@ -135,15 +139,15 @@ impl RunTexts<'_> {
         }
     }
 
-    /// How the one-thread object is opened for a run with these texts. It costs O(bytes of the texts), and the time and memory of
+    /// Returns the configuration of a run that these texts spell. The model is a kind of the program. Costs O(bytes of the texts), and the time and memory of
     /// [`RunPlan::config`].
     ///
     /// # Errors
     ///
-    /// Those of [`JudgingTexts::config`]. Else [`Misspelled::Unread`] of the first text that is not a number or a name, or of a seed,
-    /// operations or keys out of their limits. The order is seed, operations, keys, replicas, mode, faults. Else
-    /// [`Refusal::BadConcurrency`] if the concurrency is 64, else [`Refusal::NoSuchReplica`] if the replicas are not 1 to 7, else
-    /// [`Refusal::NoMemory`] if memory is refused.
+    /// Those of [`JudgingTexts::config`]. Otherwise [`Misspelled::Unread`] of the first wrong text, in the order seed, operations, keys,
+    /// replicas, mode, faults. A text is wrong if it is not a number or a name, or a seed, operations or keys outside their limits.
+    /// Otherwise [`Refusal::BadConcurrency`] if the concurrency is 64, otherwise [`Refusal::NoSuchReplica`] if the number of replicas is
+    /// not 1 to 7, otherwise [`Refusal::NoMemory`] if an allocation fails.
     pub fn config(&self, alloc: Global) -> Result<Config, Misspelled>
         ensures spelled { IfOk result (λ config. run_spelled self.now ≡ Ok (setup_of config)) }
         ensures within { IfOk result (λ config.
@@ -151,7 +155,7 @@ impl RunTexts<'_> {
         ensures refused { IfErr result (λ why. (run_spelled self.now ≡ Err why)
             ⊎ ((why ≡ Misspelled.Refused NoMemory) × IsOk (run_spelled self.now))) }
     {
-        let judging = self.judging.config(alloc)?;
+        let judging = self.judging.config(alloc, &[])?;
         let plan = self.plan()?;
         if judging.concurrency > MOST_CLIENTS {
             return Err(Misspelled::Refused(Refusal::BadConcurrency));
@@ -165,7 +169,7 @@ impl RunTexts<'_> {
         }
     }
 
-    // The plan of clients and faults. The number of replicas is not tested yet.
+    // Returns the plan of clients and faults. Does not test the number of replicas.
     fn plan(&self) -> Result<RunPlan, Misspelled>
         ensures { MatchResult result (λ plan. plan_spelled self.now ≡ Ok plan)
             (λ why. plan_spelled self.now ≡ Err why) }

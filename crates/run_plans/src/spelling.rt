@@ -1,13 +1,13 @@
-//! Numbers and names that texts spell.
+//! The spelling of numbers and names in texts.
 ghost use Rattle.std.specs.Prelude.{◌≡◌, ◌-◌, ◌^◌, ◌<◌, ◌≤◌, IfSome, min, option_map};
-ghost use Rattle.run_plans.specs.Options.{are_digits, count_spelled, digits_spelled, kind_spelled, mode_spelled, number_spelled, number_within, switch_spelled};
+ghost use Rattle.run_plans.specs.Options.{are_digits, count_spelled, digits_spelled, mode_spelled, number_spelled, number_within, switch_spelled};
 
-use kinds::ModelKind;
 use test_store::Mode;
 
 const MOST_WORKERS: u64 = 64;
 
-/// How many workers the text asks for: 1 to 64. `None` if it is not such a number. It takes no memory, and the time of the text.
+/// Returns the number of workers that the text spells, 1 to 64. `None` if it does not spell such a number. Does not allocate. Costs
+/// O(length of the text).
 pub fn workers_in(text: &str) -> Option<u32>
     ensures spelled { result ≡ number_within 1 64 text.now }
     ensures limits { IfSome result (λ workers. (1 ≤ workers) × (workers ≤ 64)) }
@@ -15,7 +15,7 @@ pub fn workers_in(text: &str) -> Option<u32>
     Some(within(text, 1, MOST_WORKERS)? as u32)
 }
 
-// Whether it has digits alone, and one at least.
+// Returns whether the text has only digits, and at least one.
 fn has_digits(text: &str) -> bool
     ensures { result ≡ are_digits text.now }
 {
@@ -27,7 +27,7 @@ fn has_digits(text: &str) -> bool
     !text.is_empty()
 }
 
-// The number that digits alone spell; one that is greater than a u64 counts as the greatest.
+// Returns the number that the text spells, if it has only digits. A number above the greatest `u64` counts as the greatest `u64`.
 fn digits_in(text: &str) -> Option<u64>
     ensures { result ≡ option_map (λ n. min n (2 ^ 64 - 1)) (digits_spelled text.now) }
 {
@@ -37,7 +37,8 @@ fn digits_in(text: &str) -> Option<u64>
     Some(text.parse::<u64>().unwrap_or(u64::MAX))
 }
 
-// The same, with an optional plus before the digits.
+// Returns the number that the text spells, if it has only digits after an optional plus. A number above the greatest `u64` counts as the
+// greatest `u64`.
 fn number_in(text: &str) -> Option<u64>
     ensures { result ≡ option_map (λ n. min n (2 ^ 64 - 1)) (number_spelled text.now) }
 {
@@ -47,7 +48,7 @@ fn number_in(text: &str) -> Option<u64>
     }
 }
 
-// The number of an option that is from the least to the most.
+// Returns the number that the text spells, if it is from `least` to `most`.
 pub(crate) fn within(text: &str, least: u64, most: u64) -> Option<u64>
     requires { most < 2 ^ 64 - 1 }
     ensures spelled { result ≡ number_within least most text.now }
@@ -61,22 +62,22 @@ pub(crate) fn within(text: &str, least: u64, most: u64) -> Option<u64>
     }
 }
 
-// The number, or the greatest u32 if it is greater.
+// Returns the number, or the greatest `u32` if the number is greater.
 fn clipped(number: u64) -> u32
     ensures { result ≡ min number (2 ^ 32 - 1) }
 {
     u32::try_from(number).unwrap_or(u32::MAX)
 }
 
-// The number, or the greatest u8 if it is greater.
+// Returns the number, or 255 if the number is greater.
 pub(crate) fn byte_of(number: u32) -> u8
     ensures { result ≡ min number 255 }
 {
     u8::try_from(number).unwrap_or(u8::MAX)
 }
 
-// The number of an option whose limits another refusal reports: however long its text is, and with a minus too. One past the ends of 0 to
-// 2^32 - 1 counts as that end, which is out of the limits of every such option.
+// Returns the number that the text spells, for an option whose limits a later refusal reports. The text may be long and may begin with a
+// minus. A number below 0 counts as 0, and a number above 2^32 - 1 as 2^32 - 1. Both are outside the limits of every such option.
 pub(crate) fn count_in(text: &str) -> Option<u32>
     ensures { result ≡ count_spelled text.now }
 {
@@ -86,14 +87,7 @@ pub(crate) fn count_in(text: &str) -> Option<u32>
     }
 }
 
-// The kind of this name.
-pub(crate) fn kind_in(text: &str) -> Option<ModelKind>
-    ensures { result ≡ kind_spelled text.now }
-{
-    ModelKind::of_name(text)
-}
-
-// How the replicas serve.
+// Returns the mode of the replicas that the text spells.
 pub(crate) fn mode_in(text: &str) -> Option<Mode>
     ensures { result ≡ mode_spelled text.now }
 {
@@ -106,7 +100,7 @@ pub(crate) fn mode_in(text: &str) -> Option<Mode>
     }
 }
 
-// Whether faults strike.
+// Returns whether faults strike, as the text spells it.
 pub(crate) fn switch_in(text: &str) -> Option<bool>
     ensures { result ≡ switch_spelled text.now }
 {

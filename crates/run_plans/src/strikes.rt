@@ -6,7 +6,8 @@ use events::{Fault, Groups};
 use nemesis::Schedule;
 use std::alloc::{AllocError, Global};
 
-// The faults of a run where they strike, each with the length of the history from which it is due; else none.
+// Returns the faults of a run if they strike, each with the length of the history from which on it is due. Returns none if they do not
+// strike.
 pub(crate) fn schedule_of(alloc: Global, has_faults: bool) -> Result<Schedule, AllocError>
     ensures { IfOk result (λ schedule. schedule ≡ faults has_faults) }
 {

@@ -3,12 +3,13 @@ use Rattle.std.proofs.Common.{◌≡◌, ⊎_elim, ℕ, Bool, true, false, List,
 use Rattle.std.specs.Prelude.{◌&&◌, Option, Some, None, Result, Ok, Err}
 use Rattle.std.proofs.lemmas.Bool.{cases_order}
 use Rattle.std.proofs.lemmas.Bool.Decides.{leb_tells}
-use Rattle.edn.specs.Value.{Value, nil, bool, int, text, keyword, vector, members, pairs, Values, none, more}
+use Rattle.edn_values.specs.Value.{Value, nil, bool, int, text, keyword, vector, members, pairs, Values, none, more}
 use Rattle.edn.specs.Text.{IsText, IsLongestTextPrefix}
 use Rattle.edn.specs.declared.refusal.Refusal.{Refusal}
 use Rattle.edn.specs.declared.refusal.Refusal.TheVariants.{BadValue, Unreadable}
 use Rattle.edn.proofs.Unique.{one_text}
 use Rattle.events.specs.declared.event.Event.{Event}
+use Rattle.events.specs.OwnNames.{OwnNames, own_by}
 use Rattle.events.proofs.OneEvent.{spell_one}
 use Rattle.machine.specs.Machine.{Machine, MayStep}
 use Rattle.machine.specs.declared.command.Command.{Command}
@@ -19,6 +20,8 @@ use Rattle.machine.proofs.OneStep.{step_one}
 use Rattle.line_loop.specs.ReplyText.{line_limit, IsReplyText, Replies}
 use Rattle.line_loop.specs.RefusalLine.{refusal_line}
 use Rattle.line_loop.proofs.OneCut.{one_reply_text_law}
+use Rattle.object_kinds.specs.Objects.{names_of}
+use Rattle.object_kinds.specs.declared.keeping.Objects.{Objects}
 use Rattle.script_command.specs.declared.command.LineCommand.{LineCommand}
 use Rattle.script_command.specs.declared.command.LineCommand.TheVariants.{Hello, Step}
 use Rattle.script_command.specs.Command.{Appends, ElementAsks, AskFor, Asks}
@@ -30,64 +33,64 @@ abbrev Outcome : Type 0
 Outcome = Result (Option LineCommand) Refusal
 
 -- an element asks for one thing
-append_one : (v : Value) (asked other : Result LineCommand Refusal) → Appends v asked → Appends v other → asked ≡ other
-append_one v (Ok (Step (Append e))) (Ok (Step (Append f))) p q = ap (λ (event : Event). let asked : Result LineCommand Refusal = Ok (Step (Append event)) in asked) (spell_one v e f p q)
-append_one v (Ok (Step (Append e))) (Err BadValue) p q = absurd (q e p)
-append_one v (Err BadValue) (Ok (Step (Append f))) p q = absurd (p f q)
-append_one v (Err BadValue) (Err BadValue) p q = refl
-append_one v (Ok (Step (Append e))) _ p q = absurd q
-append_one v (Err BadValue) _ p q = absurd q
-append_one v _ other p q = absurd p
+append_one : (own : OwnNames) (v : Value) (asked other : Result LineCommand Refusal) → Appends own v asked → Appends own v other → asked ≡ other
+append_one own v (Ok (Step (Append e))) (Ok (Step (Append f))) p q = ap (λ (event : Event). let asked : Result LineCommand Refusal = Ok (Step (Append event)) in asked) (spell_one own v e f p q)
+append_one own v (Ok (Step (Append e))) (Err BadValue) p q = absurd (q e p)
+append_one own v (Err BadValue) (Ok (Step (Append f))) p q = absurd (p f q)
+append_one own v (Err BadValue) (Err BadValue) p q = refl
+append_one own v (Ok (Step (Append e))) _ p q = absurd q
+append_one own v (Err BadValue) _ p q = absurd q
+append_one own v _ other p q = absurd p
 
-element_one : (v : Value) (asked other : Result LineCommand Refusal) → ElementAsks v asked → ElementAsks v other → asked ≡ other
-element_one (vector vs) asked other p q = p ∙ sym q
-element_one nil asked other p q = append_one nil asked other p q
-element_one (bool b) asked other p q = append_one (bool b) asked other p q
-element_one (int z) asked other p q = append_one (int z) asked other p q
-element_one (text s) asked other p q = append_one (text s) asked other p q
-element_one (keyword s) asked other p q = append_one (keyword s) asked other p q
-element_one (pairs ps) asked other p q = append_one (pairs ps) asked other p q
-element_one (members vs) asked other p q = append_one (members vs) asked other p q
+element_one : (objects : Objects) (v : Value) (asked other : Result LineCommand Refusal) → ElementAsks objects v asked → ElementAsks objects v other → asked ≡ other
+element_one objects (vector vs) asked other p q = p ∙ sym q
+element_one objects nil asked other p q = append_one (own_by (names_of objects)) nil asked other p q
+element_one objects (bool b) asked other p q = append_one (own_by (names_of objects)) (bool b) asked other p q
+element_one objects (int z) asked other p q = append_one (own_by (names_of objects)) (int z) asked other p q
+element_one objects (text s) asked other p q = append_one (own_by (names_of objects)) (text s) asked other p q
+element_one objects (keyword s) asked other p q = append_one (own_by (names_of objects)) (keyword s) asked other p q
+element_one objects (pairs ps) asked other p q = append_one (own_by (names_of objects)) (pairs ps) asked other p q
+element_one objects (members vs) asked other p q = append_one (own_by (names_of objects)) (members vs) asked other p q
 
 -- and so does a line
 as_one : Result LineCommand Refusal → Outcome
 as_one (Ok command) = Ok (Some command)
 as_one (Err why) = Err why
 
-one_ask_for : (values : Values) (asked other : Outcome) → AskFor values asked → AskFor values other → asked ≡ other
+one_ask_for : (objects : Objects) (values : Values) (asked other : Outcome) → AskFor objects values asked → AskFor objects values other → asked ≡ other
 unfolding as_one
-one_ask_for none asked other p q = p ∙ sym q
-one_ask_for (more v none) (Ok (Some c)) (Ok (Some d)) p q = ap as_one (element_one v (Ok c) (Ok d) p q)
-one_ask_for (more v none) (Ok (Some c)) (Err why) p q = ap as_one (element_one v (Ok c) (Err why) p q)
-one_ask_for (more v none) (Err why) (Ok (Some d)) p q = ap as_one (element_one v (Err why) (Ok d) p q)
-one_ask_for (more v none) (Err why) (Err other) p q = ap as_one (element_one v (Err why) (Err other) p q)
-one_ask_for (more v none) (Ok None) other p q = absurd p
-one_ask_for (more v none) asked (Ok None) p q = absurd q
-one_ask_for (more v (more w vs)) asked other p q = p ∙ sym q
+one_ask_for objects none asked other p q = p ∙ sym q
+one_ask_for objects (more v none) (Ok (Some c)) (Ok (Some d)) p q = ap as_one (element_one objects v (Ok c) (Ok d) p q)
+one_ask_for objects (more v none) (Ok (Some c)) (Err why) p q = ap as_one (element_one objects v (Ok c) (Err why) p q)
+one_ask_for objects (more v none) (Err why) (Ok (Some d)) p q = ap as_one (element_one objects v (Err why) (Ok d) p q)
+one_ask_for objects (more v none) (Err why) (Err other) p q = ap as_one (element_one objects v (Err why) (Err other) p q)
+one_ask_for objects (more v none) (Ok None) other p q = absurd p
+one_ask_for objects (more v none) asked (Ok None) p q = absurd q
+one_ask_for objects (more v (more w vs)) asked other p q = p ∙ sym q
 
 -- there is one longest prefix
 one_front : (bytes : List ℕ) (n m : ℕ) → IsLongestTextPrefix bytes n → IsLongestTextPrefix bytes m → n ≡ m
 one_front bytes n m a b = ⊎_elim (λ e. e) (⊎_elim (λ lt. absurd (a.longest m lt b.is_prefix)) (λ lt. absurd (b.longest n lt a.is_prefix))) (cases_order n m)
 
 -- a line is not text, or asks for the command of its elements
-data LineAsks (line : List ℕ) (asked : Outcome) : Type 0 where
-  no_text : (place : ℕ) → asked ≡ Err (Unreadable place) → ((values : Values) → ¬ IsText line values) → IsLongestTextPrefix line place → LineAsks line asked
-  elements : (values : Values) → IsText line values → AskFor values asked → LineAsks line asked
+data LineAsks (objects : Objects) (line : List ℕ) (asked : Outcome) : Type 0 where
+  no_text : (place : ℕ) → asked ≡ Err (Unreadable place) → ((values : Values) → ¬ IsText line values) → IsLongestTextPrefix line place → LineAsks objects line asked
+  elements : (values : Values) → IsText line values → AskFor objects values asked → LineAsks objects line asked
 
-line_asks : (line : List ℕ) (asked : Outcome) → Asks line asked → LineAsks line asked
-line_asks line (Err (Unreadable place)) h = no_text place refl h.0 h.1
-line_asks line (Err _) h = elements h.0 h.1 h.2
-line_asks line (Ok _) h = elements h.0 h.1 h.2
+line_asks : (objects : Objects) (line : List ℕ) (asked : Outcome) → Asks objects line asked → LineAsks objects line asked
+line_asks objects line (Err (Unreadable place)) h = no_text place refl h.0 h.1
+line_asks objects line (Err _) h = elements h.0 h.1 h.2
+line_asks objects line (Ok _) h = elements h.0 h.1 h.2
 
-same_line_asks : (line : List ℕ) (asked other : Outcome) → LineAsks line asked → LineAsks line other → asked ≡ other
-same_line_asks line asked other (no_text n a none_reads l) (no_text m b none_read k) = a ∙ ap (λ (place : ℕ). Err (Unreadable place)) (one_front line n m l k) ∙ sym b
-same_line_asks line asked other (no_text n a none_reads l) (elements vs t f) = absurd (none_reads vs t)
-same_line_asks line asked other (elements vs t f) (no_text m b none_reads l) = absurd (none_reads vs t)
-same_line_asks line asked other (elements vs t f) (elements ws u g) =
-    one_ask_for vs asked other f (subst (λ (xs : Values). AskFor xs other) (one_text line ws vs u t) g)
+same_line_asks : (objects : Objects) (line : List ℕ) (asked other : Outcome) → LineAsks objects line asked → LineAsks objects line other → asked ≡ other
+same_line_asks objects line asked other (no_text n a none_reads l) (no_text m b none_read k) = a ∙ ap (λ (place : ℕ). Err (Unreadable place)) (one_front line n m l k) ∙ sym b
+same_line_asks objects line asked other (no_text n a none_reads l) (elements vs t f) = absurd (none_reads vs t)
+same_line_asks objects line asked other (elements vs t f) (no_text m b none_reads l) = absurd (none_reads vs t)
+same_line_asks objects line asked other (elements vs t f) (elements ws u g) =
+    one_ask_for objects vs asked other f (subst (λ (xs : Values). AskFor objects xs other) (one_text line ws vs u t) g)
 
-one_asked : (line : List ℕ) (asked other : Outcome) → Asks line asked → Asks line other → asked ≡ other
-one_asked line asked other a b = same_line_asks line asked other (line_asks line asked a) (line_asks line other b)
+one_asked : (objects : Objects) (line : List ℕ) (asked other : Outcome) → Asks objects line asked → Asks objects line other → asked ≡ other
+one_asked objects line asked other a b = same_line_asks objects line asked other (line_asks objects line asked a) (line_asks objects line other b)
 
 -- a command is answered by one line, and leads to one machine
 abbrev line_of_outcome : Result Reply Refusal → List ℕ
@@ -123,12 +126,12 @@ one_answer old (Ok (Some (Step command))) said other r r' new next a b = one_car
 one_answer old (Err refusal) said other r r' new next a b = (a.0 ∙ sym b.0, a.1 ∙ sym b.1, a.2 ∙ sym b.2)
 
 -- of a line within the limit and of one over it
-one_line : (old : Machine) (line said other : List ℕ) (r r' : Bool) (new next : Machine) → MayAnswer old line said r new → MayAnswer old line other r' next → Same said other r r' new next
-one_line old line said other r r' new next a b = elim (leb_tells (length line) line_limit) as (λ _. Same said other r r' new next) [
+one_line : (objects : Objects) (old : Machine) (line said other : List ℕ) (r r' : Bool) (new next : Machine) → MayAnswer objects old line said r new → MayAnswer objects old line other r' next → Same said other r r' new next
+one_line objects old line said other r r' new next a b = elim (leb_tells (length line) line_limit) as (λ _. Same said other r r' new next) [
   | inl p ↦
       let (asked, asks, answers) = a.within p.1 in
       let (asked', asks', answers') = b.within p.1 in
-      one_answer old asked said other r r' new next answers (subst (λ (x : Outcome). AnswersTo old x other r' next) (one_asked line asked' asked asks' asks) answers')
+      one_answer old asked said other r r' new next answers (subst (λ (x : Outcome). AnswersTo old x other r' next) (one_asked objects line asked' asked asks' asks) answers')
   | inr p ↦
       let (t, u, n) = a.over p.1 in
       let (t', u', n') = b.over p.1 in
@@ -140,7 +143,7 @@ reply_open : (old : Script) (line said other : List ℕ) (new next : Script) →
 reply_open old line said other new next false is_open a b =
     let (machine, r, answers, at) = a.0 is_open in
     let (machine', r', answers', at') = b.0 is_open in
-    let (t, u, n) = one_line old.machine line said other r r' machine machine' answers answers' in
+    let (t, u, n) = one_line old.objects old.machine line said other r r' machine machine' answers answers' in
     let same : after old machine r ≡ after old machine' r' = subst (λ x. after old machine r ≡ after old machine' x) u (ap (λ m. after old m r) n) in
     (t, at ∙ same ∙ sym at')
 reply_open old line said other new next true closed a b =

@@ -1,26 +1,20 @@
-//! The line by which the program says its version, its kinds and its limits.
+//! The hello line, with the program's version, its kinds and its limits.
 ghost use Rattle.std.specs.Prelude.{◌≡◌};
 ghost use Rattle.script_command.specs.Hello.{hello_line};
 
-use kinds::{ModelKind, each_kind};
+use kinds::each_kind;
 
-/// The program's version: `with_version!(callback; args)` is `callback!(args; "1.7.0")`.
+/// The program's version: `with_version!(callback; args)` is `callback!(args; "1.7.1")`.
 #[macro_export]
 macro_rules! with_version {
     ($callback:ident; $($args:tt)*) => {
-        $callback! { $($args)*; "1.7.0" }
+        $callback! { $($args)*; "1.7.1" }
     };
 }
 
 macro_rules! bare {
     (; $version:literal) => {
         $version
-    };
-}
-
-macro_rules! kinds_listed {
-    (; $($K:ident $name:literal),*) => {
-        &[$(ModelKind::$K),*]
     };
 }
 
@@ -42,13 +36,10 @@ macro_rules! hello_of_kinds {
 /// The program's version.
 pub const VERSION: &str = with_version!(bare;);
 
-/// The kinds, in the order of [`each_kind!`].
-pub const KINDS: &[ModelKind] = each_kind!(kinds_listed;);
-
 const HELLO: &str = each_kind!(hello_of_kinds;);
 
-/// The line by which the program says its version, its kinds and its limits, with its line feed. It is an EDN map, and the same for every
-/// object and history. It costs nothing.
+/// Returns the hello line with its line feed: an EDN map with the program's version, its kinds and its limits. It is the same for every
+/// object and history. Costs nothing.
 pub fn hello_text() -> &'static str
     ensures { result.now ≡ hello_line }
 {

@@ -6,6 +6,7 @@ ghost use Rattle.line_loop.specs.Live.{IsLive};
 ghost use Rattle.line_loop.specs.Stopping.{MayStop, Finishes, Stops, KeepsUp};
 ghost use Rattle.edn.specs.declared.refusal.Refusal.{Refusal as RefusalValue};
 ghost use Rattle.script_command.specs.declared.command.LineCommand.{LineCommand as LineCommandValue};
+ghost use Rattle.object_kinds.specs.declared.keeping.Objects.{Objects as ObjectsValue};
 ghost use Rattle.script_command.specs.Command.{Asks};
 ghost use Rattle.script_command.specs.Reply.{CarriesOut, AnswersTo, MayReply, Shows, Script, script};
 ghost use Rattle.script_command.specs.Unopened.{IsUnopened};
@@ -16,6 +17,7 @@ use edn::Refusal;
 use harness::{Command, Config, Core, Reply};
 use line_loop::{Failed, Flushes, LineMachine, ReadsWithWriter, answer_lines, append_refusal};
 use linspec::Verdict;
+use object_kinds::Objects;
 use observers::Observer;
 use report::append_verdict;
 use std::alloc::{AllocError, Global};
@@ -23,10 +25,11 @@ use std::io::Write;
 use std::marker::Model;
 use std::sync::Wait;
 
-// A one-thread object whose commands are lines, and who looks on.
+// A one-thread object whose commands are lines, and an observer.
 #[derive(Drop)]
 struct ScriptMachine<'a, L> {
     alloc: Global,
+    objects: Objects,
     core: Core,
     is_strict: bool,
     is_closed: bool,
@@ -36,13 +39,17 @@ struct ScriptMachine<'a, L> {
 impl<'a, L> Model for ScriptMachine<'a, L> {
     ghost use Rattle.std.specs.Coded.{codes};
     ghost use Rattle.generators.specs.Codes.{generator_code};
+    ghost use Rattle.kinds.specs.contracts.any_state.AnyState as any_state;
+    ghost use Rattle.kinds.specs.contracts.model_kind.ModelKind as model_kind;
+    ghost use Rattle.object_kinds.specs.contracts.keeping.Objects as of_file;
     ghost use Rattle.script_command.specs.Reply.{Script};
 
     ghost Value = { Script };
 
-    ghost coded = { Prim.hlevel (codes, generator_code) };
+    ghost coded = { Prim.hlevel (codes, generator_code, any_state.the_row.coded, model_kind.the_row.coded, of_file.the_row.coded) };
 
     ghost view = { λ machine. record {
+      objects = machine.objects;
       machine = machine.core.machine;
       is_strict = machine.is_strict;
       is_closed = machine.is_closed;
@@ -67,7 +74,15 @@ impl<'a, L: Observer> LineMachine for ScriptMachine<'a, L> {
             return Ok(());
         }
         self.observer.line();
-        let is_refused = answer_line(self.alloc, &mut self.core, line, reply, self.observer)?;
+        let objects = self.objects;
+        let is_refused = answer_line(
+            self.alloc,
+            objects,
+            &mut self.core,
+            line,
+            reply,
+            self.observer,
+        )?;
         self.is_closed = self.is_strict && is_refused;
         Ok(())
     }
@@ -97,9 +112,10 @@ impl<'a, L: Observer> LineMachine for ScriptMachine<'a, L> {
     }
 }
 
-// Puts the reply to a line into an empty vector, and says whether it is a refusal.
+// Puts the reply to a line into an empty vector, and returns whether the reply is a refusal.
 fn answer_line<L: Observer>(
     alloc: Global,
+    objects: Objects,
     core: &mut Core,
     line: &[u8],
     reply: &mut Vec<u8>,
@@ -107,10 +123,10 @@ fn answer_line<L: Observer>(
 ) -> Result<bool, AllocError>
     requires { reply.old.items ≡ [] }
     ensures { IfOk result (λ is_refused. (asked : Result (Option LineCommandValue) RefusalValue)
-        × Asks line.now asked
+        × Asks objects line.now asked
         × AnswersTo core.old.machine asked reply.new.items is_refused core.new.machine) }
 {
-    match read_command(alloc, line) {
+    match read_command(alloc, objects, line) {
         Ok(None) => Ok(false),
         Ok(Some(LineCommand::Hello)) => {
             reply.extend_from_slice(hello_text().as_bytes())?;
@@ -127,14 +143,14 @@ fn answer_line<L: Observer>(
     }
 }
 
-// Tells of an event that is to be appended.
+// Reports to the observer that an event will be appended, if the command is one.
 fn tell_event<L: Observer>(observer: &L, command: &Command) {
     if let Command::Append(_) = command {
         observer.event();
     }
 }
 
-// Carries out the command of a line, puts the line of its result into an empty vector, and says whether it was refused.
+// Carries out the command of a line, and puts the line of its result into an empty vector. Returns whether the command was refused.
 fn carry_out<L: Observer>(
     alloc: Global,
     core: &mut Core,
@@ -143,7 +159,8 @@ fn carry_out<L: Observer>(
     observer: &L,
 ) -> Result<bool, AllocError>
     requires empty { reply.old.items ≡ [] }
-    requires asked { (line : List ℕ) × Asks line (Ok (Some (LineCommand.Step command))) }
+    requires asked { (objects : ObjectsValue) × (line : List ℕ)
+        × Asks objects line (Ok (Some (LineCommand.Step command))) }
     ensures { IfOk result (λ is_refused.
         CarriesOut core.old.machine command reply.new.items is_refused core.new.machine) }
 {
@@ -159,7 +176,7 @@ fn carry_out<L: Observer>(
     }
 }
 
-// The verdict that the object says.
+// Returns the verdict in the object's reply.
 fn verdict_of(said: Reply) -> Verdict
     requires { (verdict : Verdict) × (said ≡ Reply.Verdict verdict) }
     ensures { said ≡ Reply.Verdict result }
@@ -174,7 +191,7 @@ fn verdict_of(said: Reply) -> Verdict
     }
 }
 
-// Puts the line of a refusal into an empty vector. Want of memory has no line.
+// Puts the line of a refusal into an empty vector. A failed allocation has no line, and is an error.
 fn reply_refusal<L: Observer>(
     alloc: Global,
     refusal: Refusal,
@@ -195,20 +212,21 @@ fn reply_refusal<L: Observer>(
 }
 
 /// Reads commands from a reader, one in each line, and writes and flushes the reply to each before it reads further. At the reader's end it
-/// returns the verdict on the history. A strict script is closed at the first line that is refused: it writes and flushes that line's
-/// reply, reads no further, and returns no verdict.
+/// returns the verdict on the history. A strict script is closed by the first refused line: it writes and flushes that line's reply, reads
+/// no further, and returns no verdict. Events and kinds may have the names that a file of `objects` gives.
 ///
 /// A line has at most 65,536 bytes without its line feed; a longer one is answered by `refused 22 TooLong`. A line without an element gets
-/// no reply. Costs the time of the commands, and the memory of the monitor and of two lines. It waits for the reader and the writer. The
+/// no reply. Costs the time of the commands, and the memory of the monitor and of two lines. Waits for the reader and the writer. The
 /// observer gets each line.
 ///
 /// # Errors
 ///
-/// The refusals of [`Core::new`], before anything is read. Else `ReadFailed` if the reader failed, `WriteFailed` if the writer failed or
-/// took none of some bytes, and `NoMemory` if neither did: the writer has then taken a prefix of the replies.
+/// The refusals of [`Core::new`], before anything is read. Otherwise `ReadFailed` if the reader failed, `WriteFailed` if the writer failed
+/// or accepted none of the bytes that it was given, and `NoMemory` if neither did. The writer has then taken a prefix of the replies.
 pub fn run_script<X: Wait, R: ReadsWithWriter<W>, W: Write + Failed + Flushes, L: Observer>(
     rt: &X,
     alloc: Global,
+    objects: Objects,
     config: Config,
     is_strict: bool,
     reader: &mut R,
@@ -217,34 +235,35 @@ pub fn run_script<X: Wait, R: ReadsWithWriter<W>, W: Write + Failed + Flushes, L
 ) -> Result<Option<Verdict>, Refusal>
     requires reads { R.has_failed reader.old ≡ false }
     requires writes { W.has_failed writer.old ≡ false }
-    // A configuration out of its limits is refused before anything is read or written.
+    // A configuration outside its limits is refused before anything is read or written.
     ensures limits { IsSetup (setup_of config)
         ⊎ IsErrAnd result
         (IsUnopened (setup_of config) reader.old reader.new writer.old writer.new) }
-    // The outcome is that of the end. The reader has not failed, all that it had is consumed, and the writer grew by a reply text of it. Or
-    // the script is closed, and all lines that were read to their line feed had their replies.
+    // The outcome is the verdict of the final state `end`, or none if `end` is closed (`Shows`). Either the reader has not failed, its
+    // input was read to the end, and the writer has grown by the reply text of this input. Or the script is closed, and each line that was
+    // read to its line feed has had its reply.
     ensures done { IfOk result (λ outcome. (end : Script) × Shows end outcome
-        × ((Finishes MayReply (script (setup_of config) is_strict) end
+        × ((Finishes MayReply (script objects (setup_of config) is_strict) end
         (R.remaining reader.old) (R.remaining reader.new)
         (W.contents writer.old) (W.contents writer.new)
         × (R.has_failed reader.new ≡ false))
-        ⊎ ((end.is_closed ≡ true) × KeepsUp MayReply (script (setup_of config) is_strict) end
+        ⊎ ((end.is_closed ≡ true) × KeepsUp MayReply (script objects (setup_of config) is_strict) end
         (R.remaining reader.old) (R.remaining reader.new)
         (W.contents writer.old) (W.contents writer.new)))) }
-    // At each read the writer held the replies to all lines that were read before, they were flushed, and the script was open.
-    ensures live { IsLive MayReply (λ now. now.is_closed) (script (setup_of config) is_strict)
+    // At each read the writer had taken and flushed the replies to all lines that were read before, and the script was open.
+    ensures live { IsLive MayReply (λ now. now.is_closed) (script objects (setup_of config) is_strict)
         (W.contents writer.old) (R.remaining reader.old) (R.remaining reader.new)
         (R.log reader.old) (R.log reader.new) }
     ensures flushed { OnOk result (W.is_flushed writer.new ≡ true) }
-    // Nothing was read or written; or the writer grew by a beginning of a reply text of the lines read to their end.
+    // Nothing was read or written, or the writer has grown by a prefix of the replies to the lines that were read completely.
     ensures stopped { IfErr result (λ e.
         IsUnopened (setup_of config) reader.old reader.new writer.old writer.new e
-        ⊎ Stops MayReply (script (setup_of config) is_strict)
+        ⊎ Stops MayReply (script objects (setup_of config) is_strict)
         (R.remaining reader.old) (R.remaining reader.new)
         (W.contents writer.old) (W.contents writer.new) e) }
-    // Where the reader failed, all lines that were read to their line feed had their replies.
+    // If the reader failed, each line that was read to its line feed has had its reply.
     ensures kept_up { result ≡ Err Refusal.ReadFailed → (here : Script)
-        × KeepsUp MayReply (script (setup_of config) is_strict) here
+        × KeepsUp MayReply (script objects (setup_of config) is_strict) here
         (R.remaining reader.old) (R.remaining reader.new)
         (W.contents writer.old) (W.contents writer.new) }
     ensures kinds { IfErr result (λ e. MayNotOpen (setup_of config) e ⊎ MayStop e) }
@@ -256,6 +275,7 @@ pub fn run_script<X: Wait, R: ReadsWithWriter<W>, W: Write + Failed + Flushes, L
     let core = Core::new(alloc, config)?;
     let machine = ScriptMachine {
         alloc,
+        objects,
         core,
         is_strict,
         is_closed: false,

@@ -1,4 +1,4 @@
-//! One text in pieces of any size, and what is left of it where it is cut off.
+//! One text in pieces of any size, and the prefixes of a text.
 
 use crate::runs::script_of;
 use crate::streams::{LINES, narrow_writer};
@@ -7,7 +7,7 @@ use std::io::Eprint;
 use std::rt::Clock;
 use std::sync::Wait;
 
-// Whether these bytes, at most `size` of them a read, get this reply.
+// Returns whether these bytes, at most `size` of them in each read, get the reply `want`.
 fn is_replied<X: Wait + Clock + Eprint>(
     rt: &X,
     alloc: Global,
@@ -20,7 +20,7 @@ fn is_replied<X: Wait + Clock + Eprint>(
     outcome.is_ok() && holds
 }
 
-/// The replies are the same in whatever pieces the text comes.
+/// Tests that the replies are the same for all sizes of the pieces in which the text comes.
 #[test]
 fn any_cutting(rt: HostRuntime) {
     let want = b"legal\nlegal\nlegal\nlegal\n";
@@ -29,8 +29,8 @@ fn any_cutting(rt: HostRuntime) {
     }
 }
 
-// The expected reply to a beginning of the text: a line is legal, also one that lacks its line feed alone, and one that lacks its brace is
-// not text.
+// Returns the expected reply to a prefix of the text. A complete line is legal, even if only its line feed is missing. A line without its
+// closing brace is not text.
 fn wanted(alloc: Global, beginning: &[u8]) -> Result<Vec<u8>, AllocError> {
     let mut want = Vec::new(alloc);
     for byte in beginning {
@@ -46,7 +46,7 @@ fn wanted(alloc: Global, beginning: &[u8]) -> Result<Vec<u8>, AllocError> {
     Ok(want)
 }
 
-// Whether the beginning is replied what must be.
+// Returns whether the prefix gets its expected reply.
 fn is_replied_so<X: Wait + Clock + Eprint>(
     rt: &X,
     alloc: Global,
@@ -56,7 +56,7 @@ fn is_replied_so<X: Wait + Clock + Eprint>(
     Ok(is_replied(rt, alloc, beginning, 7, want.as_slice()))
 }
 
-/// Cut off at each byte: the lines before have their replies, and the last one has what its beginning gets.
+/// Tests prefixes of every length: the complete lines have their replies, and the last line has the reply of its prefix.
 #[test]
 fn cut_off_at_each_byte(rt: HostRuntime) {
     for n in 0..=LINES.len() {

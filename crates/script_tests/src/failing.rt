@@ -1,4 +1,4 @@
-//! Readers and writers that fail, where the bytes that must be written by then are known.
+//! Readers and writers that fail, with the bytes that must have been written by then.
 
 use crate::runs::{check_of_broken, check_of_lines, script_by, script_of, script_of_broken};
 use crate::streams::{LINES, narrow_writer, unflushed_writer, witness_reader};
@@ -9,12 +9,12 @@ use std::io::Eprint;
 use std::rt::Clock;
 use std::sync::Wait;
 
-// The first two lines, and a part of the third.
+// The length of the first two lines and a part of the third.
 const CUT: usize = 120;
 
 const TWO: &[u8] = b"legal\nlegal\n";
 
-/// A writer that takes ten bytes, and then none or fails: it has the first ten of the replies.
+/// Tests a writer that takes ten bytes, and then none or fails: it has the first ten bytes of the replies.
 #[test]
 fn failing_writer(rt: HostRuntime) {
     for fails in [false, true] {
@@ -29,7 +29,7 @@ fn failing_writer(rt: HostRuntime) {
 
 const READ_FAILED: &[u8] = b"refused 20 ReadFailed\n";
 
-/// A reader that fails within the third line: the two before it have their replies, and a check is refused.
+/// Tests a reader that fails within the third line: the two lines before it have their replies, and a check is refused.
 #[test]
 fn failing_reader(rt: HostRuntime) {
     let told = script_of_broken(&rt, rt.alloc(), false, &LINES[..CUT], 7, TWO);
@@ -38,16 +38,16 @@ fn failing_reader(rt: HostRuntime) {
     assert!(rt; status == 3 && ends && len == READ_FAILED.len());
 }
 
-/// A reader that fails in the midst of a line, where whole lines came in the read before: they have their replies, flushed, and
-/// the line that was begun has none.
+/// Tests a reader that fails in the middle of a line, after a read of complete lines. The complete lines have their replies, flushed, and
+/// the unfinished line has none.
 #[test]
 fn failing_reader_behind_whole_lines(rt: HostRuntime) {
     let told = script_of_broken(&rt, rt.alloc(), false, &LINES[..CUT], CUT, TWO);
     assert!(rt; matches!(told, (Err(Refusal::ReadFailed), true, 12)));
 }
 
-/// A writer that takes all bytes and fails at the flush alone: a script ends with the replies to the lines of one read, and a
-/// check with 3, whatever the verdict is.
+/// Tests a writer that takes all bytes and fails only at the flush. A script ends with the replies to the lines of one read, and a check
+/// with status 3, whatever the verdict is.
 #[test]
 fn failing_flush(rt: HostRuntime) {
     let told = script_of(
@@ -63,7 +63,7 @@ fn failing_flush(rt: HostRuntime) {
     assert!(rt; matches!(told, (3, true, _)));
 }
 
-// Whether a script, with at most `size` bytes a read, is legal, and each line was answered at the next read.
+// Returns whether a script with at most `size` bytes in each read is legal, and each line was answered by the next read.
 fn is_answered_at_once<X: Wait + Clock + Eprint>(rt: &X, alloc: Global, size: usize) -> bool {
     let mut reader = witness_reader(LINES, size);
     let writer = narrow_writer(alloc, usize::MAX, false);
@@ -71,7 +71,7 @@ fn is_answered_at_once<X: Wait + Clock + Eprint>(rt: &X, alloc: Global, size: us
     matches!(outcome, Ok(Some(Verdict::Legal))) && reader.was_answered
 }
 
-/// At each read the writer has the replies to all lines that were read before, and they are flushed.
+/// Tests that at each read the writer has all replies to the lines that were read before, flushed.
 #[test]
 fn no_reply_is_held_back(rt: HostRuntime) {
     for size in [1, 7, CUT, LINES.len()] {
@@ -81,7 +81,8 @@ fn no_reply_is_held_back(rt: HostRuntime) {
 
 const REFUSED: &[u8] = b"[:verdict]\n[:rewind 1]\n[:verdict]\n[:verdict]\n";
 
-/// A strict script ends at its first refusal: the lines behind it have no reply, and the reader's failure is not met.
+/// Tests that a strict script ends at its first refusal. The lines after it have no reply, and the reader's failure after them is not
+/// reached.
 #[test]
 fn strict_ends_at_a_refusal(rt: HostRuntime) {
     let held = b"legal\nrefused 8 NoSuchIndex\n";

@@ -1,5 +1,5 @@
-//! The loop over lines, scripts and checks, over readers and writers that give and take little, and that fail. Each test has its expected
-//! output. It has tests alone.
+//! The loop over lines, scripts and checks, with readers and writers that give and take little, and that fail. Each test has its expected
+//! output. The crate has only tests.
 #![tactic(auto)]
 
 #[cfg(test)]
@@ -12,3 +12,5 @@ mod readers_and_writers;
 mod runs;
 #[cfg(test)]
 mod streams;
+#[cfg(test)]
+mod windows;

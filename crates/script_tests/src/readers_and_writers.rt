@@ -1,4 +1,5 @@
-//! The loop over lines, with readers and writers that give or take little, stutter and fail. The built program shows the rest.
+//! The loop over lines, with readers and writers that give or take little, are interrupted, and fail. Tests of the built program cover the
+//! rest.
 ghost use Rattle.std.specs.Prelude.{◌≡◌, nat_le, false, None, OnOk};
 ghost use Rattle.std.specs.Io.{ReadsAtMost};
 ghost use Rattle.std.specs.Io.KnownBytes.{ReadConsumes};
@@ -9,8 +10,8 @@ use std::io;
 use std::io::{ErrorKind, Read, Write};
 use std::sync::Wait;
 
-// Answers a line by itself, and an empty line by nothing. At the end it says how many lines there were. So many close it, and
-// what comes then has no answer.
+// A machine that answers a line by the line itself, and an empty line by nothing. Its verdict is the number of lines. It is closed after a
+// given number of lines, and does not answer later ones.
 #[derive(Drop)]
 struct Echo {
     lines: u32,
@@ -55,8 +56,8 @@ impl LineMachine for Echo {
     }
 }
 
-// Gives one byte a read. At a place there is an error, once, after which it has failed or not. It reports whether the writer had all
-// replies at each read: one for each line before that has a byte, and flushed.
+// A reader that gives one byte in each read. At a given place it has one error, after which it has failed or not. It reports whether the
+// writer had all replies at each read, flushed: one for each earlier line that is not empty.
 #[derive(Drop)]
 struct Drip<'a> {
     bytes: &'a [u8],
@@ -105,7 +106,7 @@ impl<'a> ReadsWithWriter<Watched<Narrow>> for Drip<'a> {
     }
 }
 
-// How many bytes the replies to the lines have that end before this place.
+// Returns the number of bytes of the replies to the lines that end before `at`.
 fn answered(bytes: &[u8], at: usize) -> usize {
     let mut all: usize = 0;
     let mut line: usize = 0;
@@ -120,7 +121,8 @@ fn answered(bytes: &[u8], at: usize) -> usize {
     all
 }
 
-// Takes this number of bytes in all, and then none, or fails. It counts the flushes, and the bytes written before the last.
+// A writer that takes a given number of bytes, and then none, or fails. It counts the flushes, and the bytes that were written before the
+// last one.
 #[derive(Drop)]
 struct Narrow {
     held: Vec<u8>,
@@ -173,9 +175,9 @@ fn drip_reader(error_at: usize, is_failure: bool) -> Drip<'static>
     }
 }
 
-// How many lines close the machine; where the reader has an error, and whether that is a failure; how much the writer takes, and whether it
-// then fails. Then the results: the lines at the end or the refusal's number, the output, and the number of flushes: once for each read
-// behind which there was output.
+// The number of lines that close the machine. The place at which the reader has an error, and whether that is a failure. The number of
+// bytes that the writer takes, and whether it then fails. Then the results: the number of lines at the end or the refusal's number, the
+// output, and the number of flushes. There is one flush for each read that led to output.
 type Row = (
     u32,
     usize,
@@ -196,7 +198,7 @@ const ROWS: [Row; 9] = [
     (99, 99, false, 3, true, Err(21), b"a\nb", 1),
     (99, 99, false, 3, false, Err(21), b"a\nb", 1),
     (99, 99, false, 0, false, Err(21), b"", 0),
-    // It is closed by the third line, and what the reader has behind it is not read, nor its failure met.
+    // The third line closes the machine. The bytes after it are not read, and the reader's failure there is not reached.
     (3, 5, true, 99, false, Ok(3), b"a\nb\n", 2),
     (1, 2, true, 99, false, Ok(1), b"a\n", 1),
     (4, 99, false, 99, false, Ok(4), WHOLE, 3),

@@ -1,4 +1,4 @@
-//! The result of a script or a check as plain data.
+//! The result of a script or a check, as plain data.
 ghost use Rattle.std.specs.Prelude.{◌≡◌, false};
 
 use crate::streams::{Drip, LINES, Narrow, broken_reader, config, drip_reader, narrow_writer};
@@ -6,6 +6,7 @@ use check_command::check_text;
 use edn::Refusal;
 use line_loop::{ReadsWithWriter, Watched};
 use linspec::Verdict;
+use object_kinds::Objects;
 use observers::OnStandardError;
 use script_command::run_script;
 use std::alloc::Global;
@@ -14,10 +15,10 @@ use std::rt::Clock;
 use std::sync::Wait;
 use std::thread::Threads;
 
-/// The outcome of a script; whether the writer then holds what it was to hold; and how many bytes are flushed.
+/// The outcome of a script, whether the writer then holds the expected bytes, and the number of flushed bytes.
 pub type Told = (Result<Option<Verdict>, Refusal>, bool, usize);
 
-/// Runs a script by this reader and this writer.
+/// Runs a script with this reader and this writer. `held` has the expected bytes.
 pub fn script_by<X: Wait + Clock + Eprint, R: ReadsWithWriter<Watched<Narrow>>>(
     rt: &X,
     alloc: Global,
@@ -32,12 +33,21 @@ pub fn script_by<X: Wait + Clock + Eprint, R: ReadsWithWriter<Watched<Narrow>>>(
     let mut writer = writer;
     let nobody = OnStandardError::new(rt, false);
     let config = config(alloc);
-    let outcome = run_script(rt, alloc, config, is_strict, reader, &mut writer, &nobody);
+    let outcome = run_script(
+        rt,
+        alloc,
+        Objects::none(),
+        config,
+        is_strict,
+        reader,
+        &mut writer,
+        &nobody,
+    );
     let narrow = writer.inner();
     (outcome, narrow.held.as_slice() == held, narrow.flushed)
 }
 
-/// For a reader of these bytes, at most `size` of them a read.
+/// Runs a script on a reader that gives `bytes`, at most `size` of them in each read.
 pub fn script_of<X: Wait + Clock + Eprint>(
     rt: &X,
     alloc: Global,
@@ -52,7 +62,7 @@ pub fn script_of<X: Wait + Clock + Eprint>(
     script_by(rt, alloc, false, &mut reader, writer, held)
 }
 
-/// For one that fails behind them, to a writer that takes all.
+/// Runs a script on a reader that gives `bytes`, at most `size` of them in each read, and then fails. The writer takes everything.
 pub fn script_of_broken<X: Wait + Clock + Eprint>(
     rt: &X,
     alloc: Global,
@@ -66,8 +76,7 @@ pub fn script_of_broken<X: Wait + Clock + Eprint>(
     script_by(rt, alloc, is_strict, &mut reader, writer, held)
 }
 
-/// The status of a check by this reader and this writer; whether the writer then holds these bytes at its end; and how many it
-/// holds.
+/// Runs a check with this reader and this writer. Returns its status, whether the bytes of the writer end with `end`, and their number.
 pub fn check_by<X: Wait + Threads + Sync + Clock + Eprint>(
     rt: &X,
     alloc: Global,
@@ -81,12 +90,21 @@ pub fn check_by<X: Wait + Threads + Sync + Clock + Eprint>(
     let mut writer = writer;
     let nobody = OnStandardError::new(rt, false);
     let config = config(alloc);
-    let status = check_text(rt, alloc, config, 1, reader, &mut writer, &nobody);
+    let status = check_text(
+        rt,
+        alloc,
+        Objects::none(),
+        config,
+        1,
+        reader,
+        &mut writer,
+        &nobody,
+    );
     let held = writer.inner().held.as_slice();
     (status, held.ends_with(end), held.len())
 }
 
-/// For a reader of these bytes, at most `size` of them a read, that fails behind them; to a writer that takes all.
+/// Runs a check on a reader that gives `bytes`, at most `size` of them in each read, and then fails. The writer takes everything.
 pub fn check_of_broken<X: Wait + Threads + Sync + Clock + Eprint>(
     rt: &X,
     alloc: Global,
@@ -104,7 +122,7 @@ pub fn check_of_broken<X: Wait + Threads + Sync + Clock + Eprint>(
     )
 }
 
-/// For a reader of all lines.
+/// Runs a check on a reader that gives all lines.
 pub fn check_of_lines<X: Wait + Threads + Sync + Clock + Eprint>(
     rt: &X,
     alloc: Global,

@@ -15,12 +15,12 @@ pub const LINES: &[u8] = b"{:type :invoke, :process 0, :f :write, :value [7 3]}
 {:type :ok, :process 0, :f :read, :value [7 3]}
 ";
 
-/// What answers it.
+/// Returns the configuration of the object that answers the lines.
 pub fn config(alloc: Global) -> Config {
     Config::judging_only(alloc, 2, ModelKind::Register, 4096)
 }
 
-/// Gives at most this number of bytes a read. After the last it fails, or is at its end.
+/// A reader that gives at most a given number of bytes in each read. After the last byte it fails, or is at its end.
 #[derive(Drop)]
 pub struct Drip<'a> {
     rest: &'a [u8],
@@ -41,7 +41,7 @@ impl<'a> Read for Drip<'a> {
     }
 }
 
-/// A reader of these bytes that comes to its end.
+/// Returns a reader that gives these bytes, at most `size` of them in each read, and then is at its end.
 pub fn drip_reader<'a>(rest: &'a [u8], size: usize) -> Watched<Drip<'a>>
     ensures { result.has_failed ≡ false }
 {
@@ -52,7 +52,7 @@ pub fn drip_reader<'a>(rest: &'a [u8], size: usize) -> Watched<Drip<'a>>
     })
 }
 
-/// A reader of these bytes, at most `size` of them a read, that fails behind them.
+/// Returns a reader that gives these bytes, at most `size` of them in each read, and then fails.
 pub fn broken_reader<'a>(rest: &'a [u8], size: usize) -> Watched<Drip<'a>>
     ensures { result.has_failed ≡ false }
 {
@@ -63,16 +63,16 @@ pub fn broken_reader<'a>(rest: &'a [u8], size: usize) -> Watched<Drip<'a>>
     })
 }
 
-/// A reader that looks at the writer before each read: whether it has as many lines as were read, all of them flushed.
+/// A reader that looks at the writer before each read: the writer should have as many lines as were read, all of them flushed.
 #[derive(Drop)]
 pub struct Witness<'a> {
     drip: Drip<'a>,
     lines: usize,
-    /// Whether it was so before each read.
+    /// Whether this was so before each read.
     pub was_answered: bool,
 }
 
-/// One that gives at most `size` of these bytes a read.
+/// Returns a [`Witness`] that gives at most `size` of these bytes in each read.
 pub fn witness_reader<'a>(rest: &'a [u8], size: usize) -> Witness<'a> {
     Witness {
         drip: Drip {
@@ -111,19 +111,19 @@ impl<'a> ReadsWithWriter<Watched<Narrow>> for Witness<'a> {
     }
 }
 
-// Line feeds.
+// Returns the number of line feeds.
 fn lines_of(bytes: &[u8]) -> usize {
     bytes.iter().filter(|byte| **byte == b'\n').count()
 }
 
-/// Takes this number of bytes in all, and then none, or fails; and flushes, or fails to.
+/// A writer that takes a given number of bytes, and then none, or fails. It flushes, or fails to flush.
 #[derive(Drop)]
 pub struct Narrow {
     pub held: Vec<u8>,
     room: usize,
     fails: bool,
     flush_fails: bool,
-    /// How many bytes are flushed.
+    /// The number of flushed bytes.
     pub flushed: usize,
 }
 
@@ -147,7 +147,7 @@ impl Write for Narrow {
     }
 }
 
-/// A writer that takes `room` bytes.
+/// Returns a writer that takes `room` bytes, and then fails if `fails`.
 pub fn narrow_writer(alloc: Global, room: usize, fails: bool) -> Watched<Narrow>
     ensures { result.has_failed ≡ false }
 {
@@ -160,7 +160,7 @@ pub fn narrow_writer(alloc: Global, room: usize, fails: bool) -> Watched<Narrow>
     })
 }
 
-/// A writer that takes all bytes, and fails at each flush.
+/// Returns a writer that takes all bytes, and fails at each flush.
 pub fn unflushed_writer(alloc: Global) -> Watched<Narrow>
     ensures { result.has_failed ≡ false }
 {

@@ -4,7 +4,7 @@ use Rattle.std.specs.List.{Contains}
 use Rattle.std.proofs.lemmas.Bool.{cases_lt}
 use Rattle.std.proofs.lemmas.List.Elements.{Contains-append_right, Contains-append_cases}
 use Rattle.models.specs.declared.operation.Name.{Name}
-use Rattle.models.specs.declared.operation.Name.TheVariants.{Read, Write, Cas, Acquire, Release, Enqueue, Dequeue, Add}
+use Rattle.models.specs.declared.operation.Name.TheVariants.{Read, Write, Cas, Acquire, Release, Enqueue, Dequeue, Add, Own}
 use Rattle.models.specs.declared.operation.Part.{Part}
 use Rattle.models.specs.declared.operation.Part.TheVariants.{Nil, Int}
 use Rattle.models.specs.declared.operation.Op.{Op}
@@ -43,6 +43,7 @@ read_or_not Release = inr (λ e. cc)
 read_or_not Enqueue = inr (λ e. cc)
 read_or_not Dequeue = inr (λ e. cc)
 read_or_not Add = inr (λ e. cc)
+read_or_not (Own number) = inr (λ e. cc)
 
 abbrev members_of : Found → List ℤ
 members_of (Elements s) = s

@@ -1,4 +1,4 @@
-//! Laws of the history of a set by its answers.
+//! Laws about the history of a set, by its answers.
 ghost use Rattle.std.specs.Prelude.{◌≡◌, ◌↔◌, ℕ, ℤ, List, [], ◌∷◌, ◌++◌};
 ghost use Rattle.std.specs.List.{Contains};
 ghost use Rattle.models.specs.Objects.{set_of_numbers};
@@ -14,8 +14,9 @@ ghost use Rattle.linspec.specs.Orders.{IsLinearizable};
 ghost use Rattle.linspec.specs.Verdicts.{EndsShortestBadPrefix};
 ghost use Rattle.set_chains.specs.Chains.{IsChained, IsChainedByFirsts, IsAddOf, MayAnswer, MayFail};
 
-/// A history of a set is linearizable exactly if it is chained: its answers form a chain, and each of them was possible in time. So is
-/// the history of one key; and a chained history is one by the firsts of its values.
+/// The answers of a chained history form a chain, and each answer was possible at its time. A history of a set is linearizable if and only
+/// if it is chained. The same holds for the history of one key. A history is chained if and only if it is chained by the first adds of its
+/// values.
 pub fn chains_law()
     ensures linearizable { (marks : List Mark) → AreWellFormed marks
         → IsLinearizable set_of_numbers marks → IsChained marks }
@@ -27,14 +28,14 @@ pub fn chains_law()
         ↔ IsChained (marks (of_key k entries)) }
 {}
 
-/// The ok of an add keeps a history chained, whatever the operation adds.
+/// A chained history stays chained after the ok of an add, whatever the operation adds.
 pub fn ok_of_add_law()
     ensures { (marks : List Mark) (id : ℕ) (v : ℤ) (answer : Answer) →
         AreWellFormed (marks ++ Returned id answer ∷ []) → IsAddOf marks id v → IsChained marks
         → IsChained (marks ++ Returned id answer ∷ []) }
 {}
 
-/// A history is chained with the ok of a read exactly if it was chained before and the read may answer so now.
+/// After the ok of a read a history is chained exactly if it was chained before and the read may now have this answer.
 pub fn ok_of_read_law()
     ensures { (marks : List Mark) (id : ℕ) (op : Op) (members : List ℤ) →
         AreWellFormed (marks ++ Returned id (Many members) ∷ []) → Contains marks (Invoked id op)
@@ -43,8 +44,8 @@ pub fn ok_of_read_law()
         ↔ (IsChained marks × MayAnswer marks id members) }
 {}
 
-/// An invocation and an info change nothing. A history is chained with a fail exactly if it was chained before and the operation may fail
-/// now.
+/// An invocation and an info do not change whether a history is chained. After a fail a history is chained if and only if it was chained
+/// before and the operation may fail now.
 pub fn other_events_law()
     ensures invoke { (marks : List Mark) (id : ℕ) (op : Op) →
         AreWellFormed (marks ++ Invoked id op ∷ [])

@@ -1,5 +1,5 @@
-//! Laws of sets: the answers, and their moments, decide whether a history of a set is linearizable. No order has to be tried. They say so
-//! of a whole history, of each event that it may get, and of the event at which it becomes illegal.
+//! Laws about sets: the answers and their times decide whether a history of a set is linearizable, so no order has to be tried. The laws
+//! are about a whole history, about each event that it may get, and about the event at which it becomes illegal.
 #![tactic(auto)]
 
 pub mod laws;

@@ -5,8 +5,9 @@ use Rattle.std.proofs.lemmas.Bool.{cases_Bool, true≢false, not-true}
 use Rattle.std.proofs.lemmas.List.Elements.{Contains-append_left, Contains-append_right, Contains-push_cases, filter-append}
 use Rattle.models.specs.Objects.{Object, ReadsLeave}
 use Rattle.models.specs.Reads.{register_reads, cas_register_reads, mutex_reads, queue_reads, set_reads, unordered_reads}
+use Rattle.objects.specs.Reads.{rules_reads}
 use Rattle.kinds.specs.declared.model_kind.ModelKind.{ModelKind}
-use Rattle.kinds.specs.declared.model_kind.ModelKind.TheVariants.{Register, CasRegister, Mutex, FifoQueue, Set, UnorderedQueue, WideRegister, WideCasRegister, WideSet, WideFifoQueue, WideUnorderedQueue}
+use Rattle.kinds.specs.declared.model_kind.ModelKind.TheVariants.{Register, CasRegister, Mutex, FifoQueue, Set, UnorderedQueue, WideRegister, WideCasRegister, WideSet, WideFifoQueue, WideUnorderedQueue, Own}
 use Rattle.kinds.specs.Kinds.{object_of}
 use Rattle.events.specs.Events.{Mark, Entry, marks, IsPrefixOf}
 use Rattle.events.specs.Events.Mark.{Invoked, Failed}
@@ -91,6 +92,7 @@ kind_reads WideCasRegister = cas_register_reads
 kind_reads WideSet = set_reads
 kind_reads WideFifoQueue = queue_reads
 kind_reads WideUnorderedQueue = unordered_reads
+kind_reads (Own object) = rules_reads object.now.rules
 
 module _ (out : ℕ → Bool) (o : Object) (entries : List Entry) (last : Entry) (well : AreWellFormed (marks entries)) where
   module _ (before after : List Entry) (whole : before ++ last ∷ after ≡ entries) where

@@ -1,7 +1,7 @@
 -- the steps of a register, with compare-and-set and without
 use Rattle.std.proofs.Common.{◌≡◌, ◌≢◌, ℤ, ◌⊎◌, inl, inr, ⊎_elim, Option, Some, refl, sym, subst}
 use Rattle.models.specs.declared.operation.Name.{Name}
-use Rattle.models.specs.declared.operation.Name.TheVariants.{Read, Write, Cas, Acquire, Release, Enqueue, Dequeue, Add}
+use Rattle.models.specs.declared.operation.Name.TheVariants.{Read, Write, Cas, Acquire, Release, Enqueue, Dequeue, Add, Own}
 use Rattle.models.specs.declared.operation.Part.{Part}
 use Rattle.models.specs.declared.operation.Part.TheVariants.{Nil, Int, Pair, Set}
 use Rattle.models.specs.declared.finding.Found.{Found}
@@ -43,6 +43,7 @@ view_cas_register Release part s t found h = absurd h
 view_cas_register Enqueue part s t found h = absurd h
 view_cas_register Dequeue part s t found h = absurd h
 view_cas_register Add part s t found h = absurd h
+view_cas_register (Own number) part s t found h = absurd h
 
 pub by_write : (name : Name) (part : Part) (s t : Option ℤ) (found : Found) → IsWrite name part s found t → IsOneOf (register_apply name part s) (t, found)
 by_write name part s t found h =

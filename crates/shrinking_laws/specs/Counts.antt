@@ -1,4 +1,4 @@
--- Promise: how much of each value has come out of a queue without an order, and how much was put in (this project's own)
+-- Promise: how often each value was enqueued in and dequeued from a queue without an order (this project's own)
 use Rattle.std.specs.Prelude.{◌≡◌, ℕ, ℤ, ◌⊎◌, ◌≤◌, nat_eq, Bool, IsTrue, ◌||◌, List, ◌∷◌, ◌++◌, length}
 use Rattle.std.specs.List.{Contains}
 use Rattle.models.specs.declared.operation.Name.TheVariants.{Dequeue}
@@ -10,22 +10,21 @@ use Rattle.events.specs.Events.Mark.{Invoked, Returned}
 use Rattle.linspec.specs.Operations.{HasReturned}
 use Rattle.shrinking_laws.specs.Queues.{Enqueues, AreEnqueuesIn, AreDequeuesOf}
 
--- each operation that has returned is an enqueue of a value, or a dequeue that has answered one
+-- each operation that has returned is an enqueue of a value, or a dequeue that has answered a value
 abbrev pub AreQueueOperations : List Mark → Type 0
 AreQueueOperations marks =
     (id : ℕ) (op : Op) → Contains marks (Invoked id op) → HasReturned marks id
     → ((v : ℤ) × Enqueues op v)
     ⊎ ((v : ℤ) × (op.name ≡ Dequeue) × (op.part ≡ Nil) × Contains marks (Returned id (Number v)))
 
--- the dequeues that have answered v in one prefix of the history are no more than the enqueues of v that are invoked in another one, and
--- never fail
+-- `invoked` has at least as many enqueues of v that never fail in the history as `answered` has dequeues that have answered v
 abbrev pub HasEnough : List Mark → List Mark → List Mark → ℤ → Type 0
 HasEnough marks invoked answered v =
     (dequeues : List ℕ) → AreDequeuesOf answered v dequeues
     → (enqueues : List ℕ) × AreEnqueuesIn invoked marks v enqueues
     × (length dequeues ≤ length enqueues)
 
--- in each front, of each value no more has come out than was put in
+-- in each front of the history, no value was dequeued more often than it was enqueued
 abbrev pub NeverRunsOut : List Mark → Type 0
 NeverRunsOut marks = (front : List Mark) (v : ℤ) → IsPrefixOf front marks → HasEnough marks front front v
 
@@ -34,7 +33,7 @@ abbrev pub AreDequeues : (ℕ → Bool) → List Mark → Type 0
 AreDequeues out marks =
     (id : ℕ) (op : Op) → IsTrue (out id) → Contains marks (Invoked id op) → op.name ≡ Dequeue
 
--- an enqueue of v of no dequeue's rank: no more dequeues have answered v than enqueues of v were invoked before it
+-- an enqueue of v that no dequeue needs: at most as many dequeues have answered v as enqueues of v that never fail were invoked before it
 pub record IsLeftOver (marks : List Mark) (v : ℤ) (enqueue : ℕ) : Type 0 where
   pub op : Op
   pub enqueues : Enqueues op v
@@ -43,8 +42,8 @@ pub record IsLeftOver (marks : List Mark) (v : ℤ) (enqueue : ℕ) : Type 0 whe
   pub invoked : before ++ Invoked enqueue op ∷ after ≡ marks
   pub enough : HasEnough marks before marks v
 
--- an enqueue of v, and a dequeue that has answered v, of the same rank or a lower one. No more dequeues have answered v before this one did
--- than enqueues of v were invoked before that one
+-- an enqueue of v, and a dequeue that has answered v. Before the ok of this dequeue, at most as many dequeues had answered v as enqueues of
+-- v that never fail were invoked before this enqueue
 pub record AreOfOneRank (marks : List Mark) (v : ℤ) (enqueue dequeue : ℕ) : Type 0 where
   pub op : Op
   pub enqueues : Enqueues op v
@@ -59,6 +58,6 @@ pub record AreOfOneRank (marks : List Mark) (v : ℤ) (enqueue dequeue : ℕ) : 
   pub returned : before_dequeue ++ Returned dequeue (Number v) ∷ after_dequeue ≡ marks
   pub enough : HasEnough marks before_enqueue before_dequeue v
 
--- it is one of the two
+-- the operation is a or b
 abbrev pub is_one_of : ℕ → ℕ → ℕ → Bool
 is_one_of a b id = nat_eq id a || nat_eq id b

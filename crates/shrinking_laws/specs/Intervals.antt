@@ -1,4 +1,4 @@
--- Promise: histories of the same operations that ask for more (Herlihy and Wing 1990, section 2)
+-- Promise: stricter histories of the same operations (Herlihy and Wing 1990, section 2)
 use Rattle.std.specs.Prelude.{◌≡◌, ◌↔◌, ℕ, ◌≤◌, List}
 use Rattle.std.specs.List.{Contains}
 use Rattle.models.specs.declared.operation.Op.{Op}
@@ -7,8 +7,9 @@ use Rattle.events.specs.Events.{Mark, Entry, marks}
 use Rattle.events.specs.Events.Mark.{Invoked, Returned, Failed}
 use Rattle.linspec.specs.Operations.{IsInvoked, Precedes}
 
--- stricter asks for more than the history. It has no other operations. An operation that has returned in the history has so there, with the
--- same answer, and one that has failed has failed there, if it is there. An operation that precedes another precedes it there
+-- `stricter` has no operations that `history` has not. An operation that has returned in `history` has returned in `stricter`, with the
+-- same answer. An operation of `stricter` that has failed in `history` has failed in `stricter`. An operation of `stricter` precedes
+-- another one there if it does so in `history`
 pub record AsksForMore (history stricter : List Mark) : Type 0 where
   pub operations : (id : ℕ) (op : Op) → Contains stricter (Invoked id op)
       → Contains history (Invoked id op)
@@ -19,9 +20,9 @@ pub record AsksForMore (history stricter : List Mark) : Type 0 where
   pub precedence : (a b : ℕ) → IsInvoked stricter a → IsInvoked stricter b → Precedes history a b
       → Precedes stricter a b
 
--- the intervals of narrow are within those of wide. Both have the same operations. An operation that has returned in wide has so in narrow,
--- with the same answer, and one that has failed has failed. Each is invoked no earlier, and returns no later. The index of an entry is its
--- moment
+-- the intervals of `narrow` are within those of `wide`. Both have the same operations. An operation that has returned in `wide` has
+-- returned in `narrow`, with the same answer, and an operation that has failed in `wide` has failed in `narrow`. Each is invoked no
+-- earlier, and returns no later. The index of an entry is its moment
 pub record HasNarrowerIntervals (wide narrow : List Entry) : Type 0 where
   pub operations : (id : ℕ) (op : Op) → Contains (marks wide) (Invoked id op)
       ↔ Contains (marks narrow) (Invoked id op)

@@ -11,14 +11,14 @@ use Rattle.events.specs.Events.Mark.{Invoked, Failed}
 use Rattle.linspec.specs.Operations.{IsInvoked, HasReturned}
 use Rattle.linspec.specs.MarkRule.{id_of}
 
--- the history without the operations that out names: none of their marks, and none of their entries
+-- the history without the operations that `out` names: the marks, and the entries
 abbrev pub without : (ℕ → Bool) → List Mark → List Mark
 without out marks = filter (λ m. not (out (id_of m))) marks
 
 abbrev pub entries_without : (ℕ → Bool) → List Entry → List Entry
 entries_without out entries = filter (λ e. not (out (id_of e.mark))) entries
 
--- each operation of the history that out names has failed in it; none has returned; each is a read
+-- each operation of the history that `out` names has failed; none has returned; each is a read
 abbrev pub HaveFailed : (ℕ → Bool) → List Mark → Type 0
 HaveFailed out marks =
     (id : ℕ) → IsTrue (out id) → IsInvoked marks id → Contains marks (Failed id)
@@ -30,7 +30,7 @@ abbrev pub AreReads : (ℕ → Bool) → List Mark → Type 0
 AreReads out marks =
     (id : ℕ) (op : Op) → IsTrue (out id) → Contains marks (Invoked id op) → op.name ≡ Read
 
--- the operation takes place in no state of such an object; so does each that out names
+-- the operation takes place in no state of this kind; each operation that `out` names is such an operation
 abbrev pub NeverTakesPlace : ModelKind → Op → Type 0
 NeverTakesPlace kind op =
     (s t : (object_of kind).State) (found : Found) → ¬ (object_of kind).Steps s op found t
@@ -39,7 +39,7 @@ abbrev pub AreForeign : ModelKind → (ℕ → Bool) → List Mark → Type 0
 AreForeign kind out marks =
     (id : ℕ) (op : Op) → IsTrue (out id) → Contains marks (Invoked id op) → NeverTakesPlace kind op
 
--- of the operations that out names each one that is invoked before the entry has failed before it
+-- each operation that `out` names and that is invoked before the entry has failed before it
 abbrev pub HaveFailedBefore : (ℕ → Bool) → List Entry → Entry → Type 0
 HaveFailedBefore out entries last =
     (before after : List Entry) → before ++ last ∷ after ≡ entries → HaveFailed out (marks before)

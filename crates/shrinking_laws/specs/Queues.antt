@@ -14,7 +14,7 @@ use Rattle.linspec.specs.Orders.{Pairwise}
 abbrev pub Enqueues : Op → ℤ → Type 0
 Enqueues op v = (op.name ≡ Enqueue) × (op.part ≡ Int v)
 
--- enqueues of v that are invoked in the front and never fail, each once; dequeues that have answered v, each once
+-- `ids` are enqueues of v that are invoked in the front and never fail, each once; or dequeues that have answered v, each once
 pub record AreEnqueuesIn (front marks : List Mark) (v : ℤ) (ids : List ℕ) : Type 0 where
   pub once : Pairwise (λ a b. a ≢ b) ids
   pub each : (id : ℕ) → Contains ids id
@@ -26,14 +26,14 @@ pub record AreDequeuesOf (marks : List Mark) (v : ℤ) (ids : List ℕ) : Type 0
       → ((op : Op) × Contains marks (Invoked id op) × (op.name ≡ Dequeue))
       × Contains marks (Returned id (Number v))
 
--- v is spare: more enqueues of it did not fail than dequeues have answered it
+-- v is spare: more enqueues of v have not failed than dequeues have answered v
 abbrev pub IsSpare : List Mark → ℤ → Type 0
 IsSpare marks v =
     (enqueues : List ℕ) × AreEnqueuesIn marks marks v enqueues
     × ((dequeues : List ℕ) → AreDequeuesOf marks v dequeues → length dequeues < length enqueues)
 
--- out names the operations of these values: each enqueue of one, and each dequeue that has answered one. Among the dequeues that have not
--- returned it names any or none, and one only if each spare value is one of these
+-- `out` names the operations of these values: each enqueue of such a value, and each dequeue that has answered one. It may name a dequeue
+-- that has not returned only if each spare value is one of these values
 pub record AreOfValues (values : ℤ → Bool) (out : ℕ → Bool) (marks : List Mark) : Type 0 where
   pub enqueues : (id : ℕ) (op : Op) (v : ℤ) → Contains marks (Invoked id op) → Enqueues op v
       → IsTrue (out id) ↔ IsTrue (values v)

@@ -1,4 +1,4 @@
--- Promise: reads as compare-and-sets that change nothing
+-- Promise: reads as cas operations that change nothing
 use Rattle.std.specs.Prelude.{◌≡◌, ◌≢◌, ℕ, ℤ, Option, Some, None, List}
 use Rattle.std.specs.List.{Contains}
 use Rattle.models.specs.declared.operation.Name.TheVariants.{Read, Cas}
@@ -17,7 +17,7 @@ AreAnsweredReads reads marks =
     → (op : Op) × Contains marks (Invoked id op) × (op.name ≡ Read) × (op.part ≡ Nil)
     × Contains marks (Returned id (Number v))
 
--- the operation, or cas [v v] on its key
+-- cas [v v] on the key of the operation, if there is a v; else the operation
 abbrev pub cas_if : Op → Option ℤ → Op
 cas_if op None = op
 cas_if op (Some v) = record op { name = Cas; part = Pair v v }
@@ -26,7 +26,7 @@ abbrev pub answer_if : Answer → Option ℤ → Answer
 answer_if answer None = answer
 answer_if answer (Some v) = Numbers v v
 
--- the history, where each of these reads of v is cas [v v]
+-- the history with cas [v v] in place of each of these reads of v
 abbrev pub reads_as_cas : (ℕ → Option ℤ) → List Mark → List Mark
 reads_as_cas reads marks =
     changed (λ id op. cas_if op (reads id)) (λ id answer. answer_if answer (reads id)) marks

@@ -11,7 +11,7 @@ use Rattle.events.specs.Events.{Mark}
 use Rattle.events.specs.Events.Mark.{Invoked, Returned}
 use Rattle.linspec.specs.Operations.{HasReturned, Precedes}
 
--- the value that an operation brings into a register, if it takes place: a write its own, a cas its second
+-- the value that a register has after an operation: of a write its value, of a cas its second
 abbrev pub brought_by : Name → Part → Option ℤ
 brought_by Write (Int v) = Some v
 brought_by Cas (Pair a b) = Some b
@@ -22,20 +22,20 @@ abbrev pub compared_by : Name → Part → Option ℤ
 compared_by Cas (Pair a b) = Some a
 compared_by _ _ = None
 
--- the operation brings v in
+-- the operation is a write of v, or a cas that sets v
 abbrev pub IsBringer : List Mark → ℕ → ℤ → Type 0
 IsBringer marks id v =
     (op : Op) × Contains marks (Invoked id op) × (brought_by op.name op.part ≡ Some v)
 
--- the operation finds v where it takes place: a read that has answered v, or a cas that compares with v
+-- the operation finds v in the register: it is a read that has answered v, or a cas that compares with v
 abbrev pub IsFinder : List Mark → ℕ → ℤ → Type 0
 IsFinder marks id v =
     (op : Op) × Contains marks (Invoked id op)
     × (((op.name ≡ Read) × Contains marks (Returned id (Number v)))
     ⊎ (compared_by op.name op.part ≡ Some v))
 
--- the finder may have found the bringer's value. It does not precede the bringer. No third operation that has returned and writes a value
--- stands between them, preceded by the bringer and preceding the finder
+-- the finder may have found the bringer's value: the finder does not precede the bringer, and no third bringer that has returned comes
+-- after the bringer and before the finder
 pub record MayHaveFound (marks : List Mark) (bringer finder : ℕ) : Type 0 where
   pub not_before : ¬ Precedes marks finder bringer
   pub none_between : (third : ℕ) (v : ℤ) → IsBringer marks third v → HasReturned marks third
@@ -47,7 +47,7 @@ DragsFinders out marks =
     (bringer finder : ℕ) (v : ℤ) → IsBringer marks bringer v → IsFinder marks finder v
     → MayHaveFound marks bringer finder → IsTrue (out bringer) → IsTrue (out finder)
 
--- of each value out names all operations or none
+-- `out` names all operations of a value or none
 abbrev pub IsByValues : (ℕ → Bool) → List Mark → Type 0
 IsByValues out marks =
     (a b : ℕ) (v : ℤ) → IsBringer marks a v ⊎ IsFinder marks a v

@@ -3,11 +3,11 @@ use Rattle.std.specs.Prelude.{◌≡◌, ℕ, List, map}
 use Rattle.events.specs.Events.{Mark}
 use Rattle.events.specs.Events.Mark.{Invoked, Returned, Failed, Crashed}
 
--- no two numbers get the same name
+-- different numbers get different names
 abbrev pub IsOneToOne : (ℕ → ℕ) → Type 0
 IsOneToOne name = (a b : ℕ) → name a ≡ name b → a ≡ b
 
--- each operation by the name that its number gets
+-- the mark, with the name of its operation
 abbrev pub renamed_mark : (ℕ → ℕ) → Mark → Mark
 renamed_mark name (Invoked id op) = Invoked (name id) op
 renamed_mark name (Returned id answer) = Returned (name id) answer

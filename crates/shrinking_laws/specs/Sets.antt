@@ -18,20 +18,20 @@ Adds op v = (op.name ≡ Add) × (op.part ≡ Int v)
 abbrev pub IsAddOf : List Mark → ℕ → ℤ → Type 0
 IsAddOf marks id v = (op : Op) × Contains marks (Invoked id op) × Adds op v
 
--- each operation that out names is an add, and an add of the same value, which out does not name, precedes it
+-- each operation that `out` names is an add, and an add of the same value that `out` does not name precedes it
 abbrev pub AreRepeatedAdds : (ℕ → Bool) → List Mark → Type 0
 AreRepeatedAdds out marks =
     (id : ℕ) → IsTrue (out id) → IsInvoked marks id
     → (v : ℤ) × IsAddOf marks id v
     × ((first : ℕ) × IsAddOf marks first v × Precedes marks first id × (¬ IsTrue (out first)))
 
--- out names the adds of these values, and no other operation
+-- `out` names the adds of these values, and no other operation
 abbrev pub AreAddsOf : (ℤ → Bool) → (ℕ → Bool) → List Mark → Type 0
 AreAddsOf values out marks =
     (id : ℕ) (op : Op) → Contains marks (Invoked id op)
     → IsTrue (out id) ↔ ((v : ℤ) × Adds op v × IsTrue (values v))
 
--- the answer without these values; and each answer so
+-- the answer without these values; the history with each answer without them
 abbrev pub answer_without : (ℤ → Bool) → Answer → Answer
 answer_without values Nothing = Nothing
 answer_without values (Number a) = Number a

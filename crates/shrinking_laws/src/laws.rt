@@ -1,4 +1,4 @@
-//! Laws of histories that ask for more, and of histories without some of their operations.
+//! Laws about stricter histories (`AsksForMore`: more answers, more precedence), and about histories without some of their operations.
 ghost use Rattle.std.specs.Prelude.{◌≢◌, ◌↔◌, ℕ, ℤ, nat_eq, Bool, IsFalse, Option, List, [], ◌∷◌, ◌++◌};
 ghost use Rattle.models.specs.declared.operation.Name.{Name};
 ghost use Rattle.models.specs.declared.operation.Name.TheVariants.{Acquire, Release};
@@ -20,7 +20,7 @@ ghost use Rattle.shrinking_laws.specs.Queues.{AreOfValues};
 ghost use Rattle.shrinking_laws.specs.Sets.{AreRepeatedAdds, AreAddsOf, answers_without};
 ghost use Rattle.shrinking_laws.specs.ReadsAsCas.{AreAnsweredReads, reads_as_cas, HasNoCas};
 
-/// Where a history that asks for more is linearizable, so is the history: for one key, and for all keys together.
+/// If a stricter history (`AsksForMore`) is linearizable, the history itself is linearizable: for one key, and for all keys together.
 pub fn asks_for_more_law()
     ensures one { (kind : ModelKind) (history stricter : List Mark) →
         AsksForMore history stricter → IsLinearizable (object_of kind) stricter
@@ -30,8 +30,8 @@ pub fn asks_for_more_law()
         → IsLinearizable (product kinds) history }
 {}
 
-/// Narrower intervals ask for more: where each operation is invoked no earlier and returns no later, and the history is
-/// linearizable so, it is linearizable with its wider intervals.
+/// A history with narrower intervals is stricter: each operation is invoked no earlier and returns no later. If it is linearizable, the
+/// history with the wider intervals is linearizable.
 pub fn narrower_intervals_law()
     ensures one { (kind : ModelKind) (wide narrow : List Entry) →
         IsRising wide → IsRising narrow → HasNarrowerIntervals wide narrow
@@ -43,8 +43,8 @@ pub fn narrower_intervals_law()
         → IsLinearizable (product kinds) (marks wide) }
 {}
 
-/// An operation that has not returned may be left out of an order: if the history without some of these is
-/// linearizable, so is the history.
+/// An order may omit an operation that has not returned. If a history is linearizable without some of these operations, the whole history
+/// is linearizable.
 pub fn not_returned_law()
     ensures one { (kind : ModelKind) (out : ℕ → Bool) (marks : List Mark) →
         HaveNotReturned out marks → IsLinearizable (object_of kind) (without out marks)
@@ -54,9 +54,9 @@ pub fn not_returned_law()
         → IsLinearizable (product kinds) marks }
 {}
 
-/// An operation that failed decides nothing: a history is linearizable exactly if it is so without some of these. And
-/// where it becomes illegal at an event without them, it does so with them, if each that was invoked before that event had
-/// failed by then. One that was still open may have taken place.
+/// Failed operations have no effect: a history is linearizable if and only if it is linearizable without some of them. Let the history
+/// without them become illegal at an event. The whole history becomes illegal at this event too, if each of them that was invoked before
+/// the event had failed by then. An operation that was still open may have taken place.
 pub fn failed_law()
     ensures one { (kind : ModelKind) (out : ℕ → Bool) (marks : List Mark) →
         AreWellFormed marks → HaveFailed out marks
@@ -71,9 +71,9 @@ pub fn failed_law()
         → EndsShortestBadPrefix (object_of kind) entries last }
 {}
 
-/// A read leaves the state as it was, so any reads may be left out: the rest of a linearizable history is linearizable. If
-/// none of them has returned they decide nothing: the history is linearizable exactly if the rest is; and if the rest
-/// becomes illegal at an event, so does the history.
+/// A read does not change the state. So if a history is linearizable, it stays so without any of its reads. Reads that have not returned
+/// have no effect: the history is linearizable if and only if it is so without them. If the history without them becomes illegal at an
+/// event, the whole history becomes illegal there too.
 pub fn reads_law()
     ensures any { (kind : ModelKind) (out : ℕ → Bool) (marks : List Mark) →
         AreReads out marks → IsLinearizable (object_of kind) marks
@@ -89,8 +89,8 @@ pub fn reads_law()
         → EndsShortestBadPrefix (object_of kind) entries last }
 {}
 
-/// An operation that takes place in no state of the object is in no order, so the rest of a linearizable history is linearizable. The
-/// history is linearizable if the rest is and none of these operations has returned.
+/// No order contains an operation that cannot take place in any state of the object. So if a history is linearizable, it stays so without
+/// these operations. If none of them has returned, the history is linearizable if and only if it is so without them.
 pub fn foreign_law()
     ensures any { (kind : ModelKind) (out : ℕ → Bool) (marks : List Mark) →
         AreForeign kind out marks → IsLinearizable (object_of kind) marks
@@ -101,8 +101,9 @@ pub fn foreign_law()
         ↔ IsLinearizable (object_of kind) (without out marks) }
 {}
 
-/// Operations of a register, with compare-and-set and without, may be left out together. With each that writes a value, those that may have
-/// found the value are left out too. The rest of a linearizable history is linearizable. So all operations of some values may be left out.
+/// Some operations of a register, with or without compare and set, may be left out together. If an operation that writes a value is left
+/// out, so are the operations that may have found this value. If the history is linearizable, it stays so without them. So all operations
+/// of some values may be left out.
 pub fn register_law()
     ensures register { (out : ℕ → Bool) (marks : List Mark) →
         AreWellFormed marks → DragsFinders out marks → IsLinearizable register marks
@@ -118,8 +119,9 @@ pub fn register_law()
         → IsLinearizable cas_register (without out marks) }
 {}
 
-/// A read that has answered v takes place just where cas [v v] does. So the history of a register is linearizable exactly if it is so with
-/// some of its reads replaced by such a cas. A register whose history has no cas is a register with compare-and-set.
+/// A read that has answered v takes place exactly in the states in which cas [v v] does. Such a cas may replace some reads of a register
+/// with compare and set: the history is linearizable if and only if it was so before. A register whose history has no cas behaves like a
+/// register with compare and set.
 pub fn reads_as_cas_law()
     ensures cas_register { (reads : ℕ → Option ℤ) (marks : List Mark) →
         AreWellFormed marks → AreAnsweredReads reads marks
@@ -131,13 +133,13 @@ pub fn reads_as_cas_law()
         → IsLinearizable register marks ↔ IsLinearizable cas_register marks }
 {}
 
-/// These operations of a lock may be left out, and the rest of a linearizable history is linearizable:
+/// A linearizable history of a lock stays linearizable without these operations:
 ///
-/// - an acquire and a release that it precedes, together, unless another release and then an acquire may come between both, where this
-///   acquire is invoked after the first one;
-/// - likewise a release and an acquire that it precedes;
-/// - an acquire that each release precedes, and a release that each acquire precedes;
-/// - a block: the operations of one piece of every order, with the lock free before and after the piece.
+/// - an acquire and a release that it precedes, together, if the release has returned. Another release and then another acquire must not
+///   both fit between them, if this acquire is invoked after the first one;
+/// - a release and an acquire that it precedes, together, under the same condition with acquire and release exchanged;
+/// - an acquire that each release precedes, or a release that each acquire precedes;
+/// - a block: the operations between two moments at which the lock is free in every order.
 pub fn mutex_law()
     ensures pair { (marks : List Mark) (acquire release : ℕ) →
         AreWellFormed marks → IsPair marks Acquire Release acquire release
@@ -158,8 +160,8 @@ pub fn mutex_law()
         → IsLinearizable mutex (without_each outs marks) }
 {}
 
-/// Adds of a set may be left out that another add of the same value precedes, which stays. And values may: all adds of them, and these
-/// values out of each answer. In both cases the rest of a linearizable history is linearizable.
+/// A linearizable history of a set stays linearizable without repeated adds, each preceded by another add of the same value that stays. It
+/// also stays linearizable without some values: without all adds of them, and with these values removed from each answer.
 pub fn set_law()
     ensures repeated { (out : ℕ → Bool) (marks : List Mark) →
         AreWellFormed marks → AreRepeatedAdds out marks → IsLinearizable set_of_numbers marks
@@ -169,17 +171,17 @@ pub fn set_law()
         → IsLinearizable set_of_numbers (answers_without values (without out marks)) }
 {}
 
-/// Values of a queue with an order may be left out: all enqueues of them, and all dequeues that have answered one. Dequeues that have not
-/// returned may be left out too, if each spare value is. A value is spare if more enqueues of it did not fail than dequeues have answered
-/// it. The rest of a linearizable history is linearizable.
+/// A linearizable history of a FIFO queue stays linearizable without some values: without their enqueues, and without the dequeues that
+/// have answered them. Dequeues that have not returned may be left out too, if each spare value is left out. A value is spare if its
+/// enqueues that did not fail outnumber the dequeues that have answered it.
 pub fn fifo_queue_law()
     ensures { (values : ℤ → Bool) (out : ℕ → Bool) (marks : List Mark) →
         AreWellFormed marks → AreOfValues values out marks → IsLinearizable fifo_queue marks
         → IsLinearizable fifo_queue (without out marks) }
 {}
 
-/// A queue without an order is a bag for each value. Its history is linearizable exactly if each value's part is: the enqueues of the value
-/// and the dequeues that have answered it. Dequeues that have not returned decide nothing.
+/// An unordered queue is like a bag for each value. The part of a value has its enqueues, and the dequeues that have answered it. A history
+/// is linearizable if and only if the part of each value is. Dequeues that have not returned have no effect.
 pub fn bags_law()
     ensures { (value : ℕ → Option ℤ) (marks : List Mark) →
         AreWellFormed marks → AreValues value marks
@@ -187,16 +189,17 @@ pub fn bags_law()
         ↔ ((v : ℤ) → IsLinearizable unordered_queue (bag value v marks)) }
 {}
 
-/// A queue without an order by counts. Its history is linearizable under exactly this condition: at each moment no more dequeues have
-/// answered a value than enqueues of it were invoked that never fail.
+/// The history of an unordered queue is linearizable if and only if it never runs out of a value. This compares, at each moment, the
+/// dequeues that have answered the value with its enqueues that were invoked and never fail. The dequeues must not outnumber the enqueues.
 pub fn counts_law()
     ensures { (marks : List Mark) → AreWellFormed marks → AreQueueOperations marks
         → IsLinearizable unordered_queue marks ↔ NeverRunsOut marks }
 {}
 
-/// These operations of a queue without an order may be left out. First, dequeues. Then an enqueue and a dequeue of one value together, if
-/// no more dequeues have answered the value before that one did than enqueues of it were invoked before that one. Last, an enqueue alone,
-/// if no more dequeues have answered the value at all. The rest of a linearizable history is linearizable.
+/// A linearizable history of an unordered queue stays linearizable without any dequeues. It also stays so without an enqueue and a dequeue
+/// of one value, under a condition. The dequeues that answered the value before this dequeue must not outnumber its enqueues that were
+/// invoked before this enqueue. Last, it stays so without an enqueue alone, if the dequeues that answered the value do not outnumber its
+/// enqueues that were invoked before this one.
 pub fn unordered_queue_law()
     ensures dequeues { (out : ℕ → Bool) (marks : List Mark) →
         AreWellFormed marks → AreQueueOperations marks → AreDequeues out marks
@@ -212,9 +215,9 @@ pub fn unordered_queue_law()
         → IsLinearizable unordered_queue (without (λ id. nat_eq id enqueue) marks) }
 {}
 
-/// Several may be left out one after another. The conditions of the rules for a lock's pair and for last operations still hold after any
-/// others are left out. Those for a pair of one rank, and for an enqueue of no dequeue's rank, in a queue without an order still hold after
-/// another such pair or enqueue is left out.
+/// Operations may be left out in several steps. The conditions for a lock's pair and for its last operations still hold after any other
+/// operations are left out. The same holds for an unordered queue. The conditions for a pair of one rank, and for an enqueue alone, still
+/// hold after another such pair or enqueue is left out.
 pub fn rules_stay_law()
     ensures pair { (out : ℕ → Bool) (marks : List Mark) (name other : Name) (first second : ℕ) →
         IsFalse (out first) → IsFalse (out second) → IsPair marks name other first second
@@ -240,8 +243,8 @@ pub fn rules_stay_law()
         → IsLeftOver (without (λ id. nat_eq id enqueue) marks) w other }
 {}
 
-/// How operations are numbered decides nothing: a history is linearizable exactly if it is so with other numbers, no two
-/// the same.
+/// The numbers of operations have no effect. A history is linearizable if and only if it is so after its operations get other, different
+/// numbers.
 pub fn renaming_law()
     ensures one { (kind : ModelKind) (name : ℕ → ℕ) (marks : List Mark) → IsOneToOne name
         → IsLinearizable (object_of kind) marks
@@ -250,8 +253,9 @@ pub fn renaming_law()
         → IsLinearizable (product kinds) marks ↔ IsLinearizable (product kinds) (renamed name marks) }
 {}
 
-/// How an illegal part and an order determine the event. Let the events before an event be linearizable. Let a part of the events up to it
-/// not be, though it would be if the whole were. Then the history becomes illegal at this event.
+/// The event at which a history becomes illegal follows from an illegal part and an order. Let the events before an event be linearizable.
+/// Let a part of the events up to it not be linearizable, although it would be if all these events were. Then the history becomes illegal
+/// at this event.
 pub fn illegal_at_law()
     ensures one { (kind other : ModelKind) (entries before : List Entry) (last : Entry)
         (part : List Mark) →

@@ -1,5 +1,4 @@
-//! Laws of parts of a history: what follows for the history where a part of it, or one that asks for more, is linearizable, or
-//! is not.
+//! Laws about a history and a part of it, or a stricter history: whether the one is linearizable determines whether the other is.
 #![tactic(auto)]
 
 pub mod laws;

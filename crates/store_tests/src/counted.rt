@@ -1,4 +1,4 @@
-//! A store that counts its serves, and its results in several steps.
+//! A store that counts its serves, and the results of several steps.
 ghost use Rattle.test_store.specs.Store.{VersionsWithin};
 
 use edn::Refusal;
@@ -8,7 +8,7 @@ use models::{Found, Name, Op, Part};
 use std::alloc::{AllocError, Global};
 use test_store::{Mode, Outcome, Store, versions_law};
 
-/// A store, and how many serves it has had.
+/// A store, and the number of its serves.
 #[derive(Drop)]
 pub struct Counted {
     store: Store,
@@ -16,7 +16,7 @@ pub struct Counted {
     ghost few: { VersionsWithin store.now serves },
 }
 
-/// A step on a store. An operation is on key 7, and its value that of a write or of an enqueue.
+/// A step on a store. An operation is on key 7, and its value is that of a write or of an enqueue.
 #[derive(Clone, Copy)]
 pub enum Step {
     Serve(u8, Name, Option<i64>),
@@ -50,7 +50,7 @@ pub fn told(outcome: &Result<Outcome, AllocError>) -> Answer {
 }
 
 impl Counted {
-    /// A strict store of `replicas` replicas.
+    /// Returns a strict store of `replicas` replicas.
     pub fn new(alloc: Global, replicas: u8, kind: ModelKind) -> Result<Counted, Refusal> {
         versions_law();
         let store = Store::new(alloc, replicas, Mode::Strict, kind)?;
@@ -63,7 +63,7 @@ impl Counted {
         Ok(Counted { store, serves })
     }
 
-    /// Whether each step has the result of its row.
+    /// Returns whether each step has the result in its row.
     pub fn follows(&mut self, rows: &[(Step, Answer)]) -> bool {
         for &(step, want) in rows {
             if self.carry(step) != want {
@@ -107,7 +107,7 @@ impl Counted {
     }
 }
 
-/// Whether each step has the result of its row, in a new strict store of `replicas` replicas.
+/// Returns whether each step has the result in its row, in a new strict store of `replicas` replicas.
 pub fn follows(
     alloc: Global,
     replicas: u8,

@@ -1,4 +1,4 @@
-//! Draws by hand.
+//! Examples of draws.
 use crate::forms::{Form, Kind, MEMORY, cycle_of, generator_of};
 use events::Fault;
 use generators::{Asker, Drawn, Item, Source};
@@ -17,7 +17,7 @@ const ONE: Asker = Asker::Thread(1);
 // Which threads are idle, the asker, and what is drawn.
 type Row = ([bool; 2], Asker, &'static str);
 
-// The answer of a draw, in a word.
+// Returns a word for the answer of a draw.
 fn word(drawn: &Drawn) -> &'static str {
     match drawn {
         Drawn::Pending => "pending",
@@ -68,7 +68,7 @@ fn follows<R: Abort>(rt: &R, alloc: Global, forms: &[Form], rows: &[Row]) -> boo
     follows
 }
 
-// The first three of writes and reads in turn.
+// Returns a source of the first three of writes and reads in alternation.
 const THREE_OF_TWO: [Form; 2] = [Form::Ops(&[Kind::Write, Kind::Read]), Form::Limit(3)];
 
 const OF_THREE: [Row; 4] = [
@@ -83,7 +83,7 @@ fn limit_and_cycle(rt: HostRuntime) {
     assert!(rt; followed(&rt, rt.alloc(), 0, &THREE_OF_TWO, &OF_THREE) == (true, 0, 0));
 }
 
-// A write and then reads, in phases.
+// Returns a source of a write and then reads, in phases.
 const PHASES: [Form; 4] = [
     Form::Ops(&[Kind::Write]),
     Form::Limit(1),
@@ -102,7 +102,7 @@ fn phases_wait_for_idle(rt: HostRuntime) {
     assert!(rt; follows(&rt, rt.alloc(), &PHASES, &IN_PHASES));
 }
 
-// A read for each thread.
+// Returns a source with a read for each thread.
 const READ_EACH: [Form; 3] = [Form::Ops(&[Kind::Read]), Form::Limit(1), Form::EachOfTwo];
 
 const FOR_EACH: [Row; 5] = [
@@ -118,7 +118,7 @@ fn each_thread_once(rt: HostRuntime) {
     assert!(rt; follows(&rt, rt.alloc(), &READ_EACH, &FOR_EACH));
 }
 
-// A heal of the nemesis, and then reads of the clients.
+// Returns a source of a heal for the nemesis, and then reads for the clients.
 const HEAL_THEN_READS: [Form; 6] = [
     Form::Ops(&[Kind::Heal]),
     Form::Nemesis,
@@ -140,7 +140,7 @@ fn nemesis_then_clients(rt: HostRuntime) {
     assert!(rt; follows(&rt, rt.alloc(), &HEAL_THEN_READS, &IN_SEQUENCE));
 }
 
-// A mix of an inner mix that gives nothing, and of reads.
+// Returns a source of a mix that consists of an inner mix, which gives nothing, and of reads.
 const MIXED_WITH_NOTHING: [Form; 4] = [
     Form::Ops(&[]),
     Form::Mix,
@@ -175,7 +175,7 @@ fn empty_ops_is_done(rt: HostRuntime) {
     assert!(rt; follows(&rt, rt.alloc(), &NOTHING, &[(BOTH, ZERO, "done")]));
 }
 
-// A mix of two, so that the order of the answers is that of the stream.
+// Returns a source of a mix of two children, whose answers show the order of the stream's words.
 const MIXED: [Form; 4] = [
     Form::Ops(&[Kind::Write]),
     Form::Ops(&[Kind::Read]),
@@ -214,13 +214,13 @@ fn draws_of_words<R: Abort>(rt: &R, alloc: Global) -> bool {
         && source.place() == 40
 }
 
-// The low bit of each word says which child is asked first, and both always give an item.
+// Tests that the low bit of each word chooses the child that is asked first. Both children always give an item.
 #[test]
 fn words_are_those_of_the_seed(rt: HostRuntime) {
     assert!(rt; draws_of_words(&rt, rt.alloc()));
 }
 
-// Whether both draw the same, each at the same place.
+// Returns whether both sources draw the same item, each at the same place.
 fn draw_the_same(copy: &mut Source, source: &mut Source) -> bool {
     for _ in 0..40 {
         if copy.place() != source.place() {
@@ -259,7 +259,7 @@ fn prepared_at(source: &mut Source, asker: Asker) -> (&'static str, u128) {
     (prepared(source, asker), source.place())
 }
 
-// The place after a commit.
+// Returns the place after a commit.
 fn committed(source: &mut Source) -> u128 {
     source.commit();
     source.place()
@@ -284,7 +284,7 @@ fn is_seen_once_committed<R: Abort>(rt: &R, alloc: Global) -> bool {
     true
 }
 
-// A prepared draw is visible only after its commit, and a commit of nothing changes nothing.
+// Tests that a prepared draw is visible only after its commit, and that a commit without a prepared draw changes nothing.
 #[test]
 fn prepared_draw_changes_nothing(rt: HostRuntime) {
     assert!(rt; is_seen_once_committed(&rt, rt.alloc()));
@@ -312,7 +312,7 @@ fn is_over<R: Abort>(rt: &R, alloc: Global, forms: &[Form]) -> bool {
 
 const LEFT: [Row; 2] = [(BOTH, ZERO, "read"), (BOTH, ZERO, "done")];
 
-// A cycle has its items whatever was given, and a copy of a generator is as far as the generator.
+// Tests that a cycle keeps its items whatever was given, and that a copy of a generator continues at the same item.
 #[test]
 fn copies_of_generators(rt: HostRuntime) {
     assert!(rt; turned_items(&rt, rt.alloc()) == 2);

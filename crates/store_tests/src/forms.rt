@@ -7,7 +7,7 @@ use std::mem::replace;
 use std::panic::Expect;
 use std::process::Abort;
 
-/// What a test says if memory runs out.
+/// The message of a test if memory runs out.
 pub const MEMORY: &str = "no memory";
 
 /// An item: a write of 1 to key 0, a read of it, or a fault.
@@ -25,13 +25,13 @@ pub enum Form {
     Ops(&'static [Kind]),
     /// Those items, the first of which was given, in a copy.
     Turned(&'static [Kind]),
-    // Of the last generator.
+    // These take the last generator.
     Limit(u64),
     Clients,
     Nemesis,
     EachOfTwo,
     Copied,
-    // Of all generators so far.
+    // These take all generators so far.
     Phases,
     Seq,
     Mix,

@@ -1,5 +1,5 @@
-//! Worked rows of the generators, schedules and stores of a trial: draws, faults that are due, and stores under faults. Each answer follows
-//! from the definitions by hand. It has tests alone.
+//! Examples of the generators, schedules and stores of a trial: draws, faults that are due, and stores under faults. Each answer follows by
+//! hand from the definitions. The crate has only tests.
 #![tactic(auto)]
 
 #[cfg(test)]

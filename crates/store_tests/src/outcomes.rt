@@ -4,7 +4,7 @@ use crate::counted::{Answer, Step, follows};
 use kinds::ModelKind;
 use models::Name;
 
-// A dequeue finds the least value, whichever was enqueued first.
+// Tests that a dequeue finds the least value, whichever was enqueued first.
 #[test]
 fn store_takes_first_outcome(rt: HostRuntime) {
     let rows = &[

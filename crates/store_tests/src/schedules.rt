@@ -1,4 +1,4 @@
-//! A schedule by hand.
+//! An example of a schedule.
 use crate::forms::MEMORY;
 use events::Fault;
 use nemesis::Schedule;
@@ -44,7 +44,7 @@ fn is_due_in_turn(schedule: &mut Schedule) -> bool {
     true
 }
 
-// A fault is due until it is taken.
+// Tests that a fault is due until it is taken.
 #[test]
 fn schedule_in_turn(rt: HostRuntime) {
     let mut schedule = scheduled(&rt, rt.alloc());

@@ -34,7 +34,7 @@ const TWO_WRITES: [(Step, Answer); 5] = [
 
 const NEWER: [(Step, Answer); 1] = [(Step::Serve(0, Name::Read, None), Answer::Found(Some(6)))];
 
-// Whether the two writes go so, and a read finds the newer one, in the store and in its copy.
+// Returns whether both writes have their expected outcomes, and whether a read finds the newer one in the store and in its copy.
 fn finds_the_newer(alloc: Global) -> Result<[bool; 3], Refusal> {
     let mut store = Counted::new(alloc, 3, ModelKind::Register)?;
     let first = store.follows(&TWO_WRITES);
@@ -48,7 +48,7 @@ fn greatest_version_wins(rt: HostRuntime) {
     assert!(rt; finds_the_newer(rt.alloc()) == Ok([true, true, true]));
 }
 
-// A partition of replica 0 from this one, and from one that there is not.
+// Returns a partition that separates replica 0 from `other` and from replica 9, which does not exist.
 fn partition(alloc: Global, other: u8) -> Result<Fault, AllocError> {
     let alone = Vec::from_slice(alloc, &[0])?;
     let others = Vec::from_slice(alloc, &[other, 9])?;
@@ -59,18 +59,18 @@ fn opened(alloc: Global, replicas: u8) -> Result<Store, Refusal> {
     Store::new(alloc, replicas, Mode::Strict, ModelKind::Register)
 }
 
-// The refusal of the fault by a store of three replicas.
+// Returns the refusal of the fault by a store of three replicas, if there is one.
 fn refusal_of(alloc: Global, fault: &Fault) -> Result<Option<Refusal>, Refusal> {
     let mut store = opened(alloc, 3)?;
     Ok(store.fault(fault).err())
 }
 
-// The refusal of the partition.
+// Returns the refusal of this partition by a store of three replicas, if there is one.
 fn refusal_of_partition(alloc: Global, other: u8) -> Result<Option<Refusal>, Refusal> {
     refusal_of(alloc, &partition(alloc, other)?)
 }
 
-// The refusal of a store that so many replicas would have.
+// The refusal of a store of `replicas` replicas.
 fn refusal_of_count(alloc: Global, replicas: u8) -> Option<Refusal> {
     opened(alloc, replicas).err()
 }

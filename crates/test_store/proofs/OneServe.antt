@@ -4,9 +4,9 @@ use Rattle.std.proofs.lemmas.Option.{same_Some}
 use Rattle.models.specs.declared.operation.Op.{Op}
 use Rattle.models.specs.declared.finding.Found.{Found}
 use Rattle.kinds.specs.declared.any_state.AnyState.{AnyState}
-use Rattle.kinds.specs.declared.any_state.AnyState.TheVariants.{Register as OfRegister, CasRegister as OfCasRegister, Mutex as OfMutex, FifoQueue as OfFifoQueue, Set as OfSet, UnorderedQueue as OfUnorderedQueue, WideRegister as OfWideRegister, WideCasRegister as OfWideCasRegister, WideSet as OfWideSet, WideFifoQueue as OfWideFifoQueue, WideUnorderedQueue as OfWideUnorderedQueue}
+use Rattle.kinds.specs.declared.any_state.AnyState.TheVariants.{Register as OfRegister, CasRegister as OfCasRegister, Mutex as OfMutex, FifoQueue as OfFifoQueue, Set as OfSet, UnorderedQueue as OfUnorderedQueue, WideRegister as OfWideRegister, WideCasRegister as OfWideCasRegister, WideSet as OfWideSet, WideFifoQueue as OfWideFifoQueue, WideUnorderedQueue as OfWideUnorderedQueue, Own as OfOwn}
 use Rattle.kinds.specs.declared.model_kind.ModelKind.{ModelKind}
-use Rattle.kinds.specs.declared.model_kind.ModelKind.TheVariants.{Register, CasRegister, Mutex, FifoQueue, Set, UnorderedQueue, WideRegister, WideCasRegister, WideSet, WideFifoQueue, WideUnorderedQueue}
+use Rattle.kinds.specs.declared.model_kind.ModelKind.TheVariants.{Register, CasRegister, Mutex, FifoQueue, Set, UnorderedQueue, WideRegister, WideCasRegister, WideSet, WideFifoQueue, WideUnorderedQueue, Own}
 use Rattle.kinds.specs.Kinds.{object_of}
 use Rattle.kinds.specs.AnyState.{any, outcomes_of}
 use Rattle.test_store.specs.declared.held.Held.{Held}
@@ -33,6 +33,7 @@ some_kind (OfWideCasRegister s) = (WideCasRegister, s, refl)
 some_kind (OfWideSet s) = (WideSet, s, refl)
 some_kind (OfWideFifoQueue s) = (WideFifoQueue, s, refl)
 some_kind (OfWideUnorderedQueue s) = (WideUnorderedQueue, s, refl)
+some_kind (OfOwn object s) = (Own object, s, refl)
 
 module _ (mode : Mode) (n : ℕ) (links : Links) (e : ℕ) (op : Op) (row : List Held) where
   one_place : (found other : Found) (a b : List Held) → TakesPlace mode n links e op row found a → TakesPlace mode n links e op row other b → (found ≡ other) × (a ≡ b)

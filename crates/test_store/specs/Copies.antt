@@ -9,30 +9,30 @@ use Rattle.test_store.specs.declared.held.Held.{Held}
 abbrev pub fresh : ModelKind → Held
 fresh kind = record { version = 0; state = any kind (object_of kind).start }
 
--- the same, for each replica
+-- the copies at all replicas of a key that was never changed
 abbrev pub fresh_row : ℕ → ModelKind → List Held
 fresh_row replicas kind = replicate replicas (fresh kind)
 
--- the one with the greater version, if the first has the lower number
+-- the copy with the greater version. Of equal versions, the first copy, whose replica has the lower number
 abbrev pub newer : Bool → Held → Option Held → Option Held
 newer false held best = best
 newer true held None = Some held
 newer true held (Some other) = Some (if nat_lt held.version other.version then other else held)
 
--- the copy with the greatest version among those of the chosen replicas; of equal ones that of the lowest number
+-- the copy with the greatest version at the chosen replicas. Of equal versions, the copy of the lowest number
 abbrev pub newest : List Bool → List Held → Option Held
 newest [] row = None
 newest (flag ∷ chosen) [] = None
 newest (flag ∷ chosen) (held ∷ row) = newer flag held (newest chosen row)
 
--- the row in which each chosen replica holds this
+-- the row in which each chosen replica holds the copy `new`
 abbrev pub taken_over : List Bool → Held → List Held → List Held
 taken_over [] new row = row
 taken_over (flag ∷ chosen) new [] = []
 taken_over (flag ∷ chosen) new (held ∷ row) =
     (if flag then new else held) ∷ taken_over chosen new row
 
--- the row in which each chosen replica has taken over the copy with the greatest version among theirs
+-- the row in which each chosen replica has the copy with the greatest version at the chosen replicas
 abbrev pub healed_by : List Bool → List Held → Option Held → List Held
 healed_by chosen row None = row
 healed_by chosen row (Some best) = taken_over chosen best row

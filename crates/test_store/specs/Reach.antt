@@ -11,11 +11,11 @@ is_up links r =
 abbrev pub has : List ℕ → ℕ → Bool
 has group r = list_any (λ y. nat_eq y r) group
 
--- one of the groups has both
+-- one of the groups contains both replicas
 abbrev pub share_group : List (List ℕ) → ℕ → ℕ → Bool
 share_group groups a b = list_any (λ group. has group a && has group b) groups
 
--- where the replicas are cut into groups, one that no group names is alone
+-- no partition, or one of its groups contains both replicas; a replica that no group names is alone
 abbrev pub are_together : Option (List (List ℕ)) → ℕ → ℕ → Bool
 are_together None a b = true
 are_together (Some groups) a b = nat_eq a b || share_group groups a b
@@ -24,7 +24,7 @@ are_together (Some groups) a b = nat_eq a b || share_group groups a b
 abbrev pub reaches : Links → ℕ → ℕ → Bool
 reaches links e r = is_up links r && are_together links.groups e r
 
--- of the replicas 0 to 6, those below n of which the test holds
+-- the replicas below n, of 0 to 6, for which the test holds
 abbrev pub flags_from : ℕ → (ℕ → Bool) → ℕ → ℕ → List Bool
 flags_from n test r zero = []
 flags_from n test r (suc k) = (nat_lt r n && test r) ∷ flags_from n test (r + 1) k
@@ -32,7 +32,7 @@ flags_from n test r (suc k) = (nat_lt r n && test r) ∷ flags_from n test (r + 
 abbrev pub chosen : ℕ → (ℕ → Bool) → List Bool
 chosen n test = flags_from n test 0 7
 
--- those of n replicas that e reaches; those that are up; e alone
+-- `reached`: those of n replicas that e reaches; `ups`: those that are up; `alone`: e alone
 abbrev pub reached : ℕ → Links → ℕ → List Bool
 reached n links e = chosen n (reaches links e)
 

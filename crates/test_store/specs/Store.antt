@@ -22,7 +22,7 @@ use Rattle.test_store.specs.declared.outcome.Outcome.TheVariants.{Done, Refused,
 use Rattle.test_store.specs.Copies.{fresh_row, newest, taken_over, healed_entry}
 use Rattle.test_store.specs.Reach.{is_up, reached, ups, alone, all_up}
 
--- the replicas 0 to replicas - 1, each with a copy of each key; the rows are those of the keys that were ever changed
+-- the replicas 0 to replicas - 1, each with a copy of each key. `rows` has the rows of the keys that were ever changed
 pub record Cluster : Type 0 where
   pub mode : Mode
   pub kind : ModelKind
@@ -63,7 +63,7 @@ abbrev pub may_serve : Mode → ℕ → Links → ℕ → Bool
 may_serve Strict n links e = is_up links e && is_majority n (reached n links e)
 may_serve Sloppy n links e = is_up links e
 
--- who serves: in strict mode the replicas that the entry reaches, in sloppy mode the entry alone
+-- the replicas that serve: in strict mode those that the entry reaches, in sloppy mode the entry alone
 abbrev pub servers : Mode → ℕ → Links → ℕ → List Bool
 servers Strict n links e = reached n links e
 servers Sloppy n links e = alone n e
@@ -72,14 +72,14 @@ abbrev pub first_of : {X : Type 0} → List X → Option X
 first_of [] = None
 first_of (x ∷ xs) = Some x
 
--- the result of an operation in a state: the first of the outcomes that the table lists, which is the state after it and its answer; or
--- nothing, if none is listed
+-- the result of an operation in a state: the first outcome that the table lists (the state after it and the answer), or None if the table
+-- lists none
 abbrev pub ComesTo : AnyState → Op → Option (AnyState × Found) → Type 0
 ComesTo a op outcome = (kind : ModelKind) (s : (object_of kind).State) → a ≡ any kind s
     → outcome ≡ first_of (outcomes_of kind s op)
 
--- the operation takes place at the servers. The replicas hold these copies of its key, and then those. It finds this in the copy with the
--- greatest version among the servers', and each takes the state after it, with the version one greater
+-- the operation takes place at the servers, and `row` and `row'` are the copies of its key before and after it. It finds `found` in the
+-- servers' copy with the greatest version. Each server takes the state after it, with this version plus one
 pub record TakesPlace (mode : Mode) (n : ℕ) (links : Links) (e : ℕ) (op : Op) (row : List Held)
     (found : Found) (row' : List Held) : Type 0 where
   pub may : may_serve mode n links e ≡ true
@@ -90,17 +90,17 @@ pub record TakesPlace (mode : Mode) (n : ℕ) (links : Links) (e : ℕ) (op : Op
   pub row_is : row' ≡
       taken_over (servers mode n links e) (record { version = held.version + 1; state = state }) row
 
--- the operation can't take place: the entry may not serve, or in that copy it does not apply
+-- the operation can't take place: the entry may not serve, or the operation does not apply to the copy with the greatest version
 abbrev pub TakesNoPlace : Mode → ℕ → Links → ℕ → Op → List Held → Type 0
 TakesNoPlace mode n links e op row =
     (may_serve mode n links e ≡ false)
     ⊎ ((held : Held) → newest (servers mode n links e) row ≡ Some held → ComesTo held.state op None)
 
--- the operation finds this at its entry and leaves this row of its key
+-- the operation finds `found` at entry e, and `row` is then the row of its key
 abbrev pub Serves : Cluster → ℕ → Op → Found → List Held → Type 0
 Serves s e op found row = TakesPlace s.mode s.replicas s.links e op (row_of s op.key) found row
 
--- a serve of the operation at entry e may come to this, and lead from the old store to the new
+-- `Outcome` is a possible outcome of a serve at entry e, and leads from the old store to the new one
 abbrev pub MayServe : Cluster → ℕ → Op → Outcome → Cluster → Type 0
 MayServe old e op Refused new =
     TakesNoPlace old.mode old.replicas old.links e op (row_of old op.key) × (new ≡ old)
@@ -111,7 +111,7 @@ MayServe old e op Lost new =
     (found : Found) × (row : List Held) × Serves old e op found row × (0 < old.losing)
     × (new ≡ record (with_row op.key row old) { losing = old.losing - 1 })
 
--- no copy in the row has a version above n; none of any key has
+-- `VersionsOf`: no copy in the row has a version above n; `VersionsWithin`: no copy of any key has
 abbrev pub VersionsOf : List Held → ℕ → Type 0
 VersionsOf row n = (held : Held) → Contains row held → held.version ≤ n
 
@@ -120,7 +120,7 @@ VersionsWithin s n = (key : ℕ) → VersionsOf (row_of s key) n
 
 -- Faults
 
--- who is up, and who reaches whom, after a fault
+-- the replicas that are up, and the groups, after a fault
 abbrev pub links_after : Fault → Links → Links
 links_after (Partition groups) links = record links { groups = Some groups }
 links_after Heal links = record links { groups = None }
@@ -134,8 +134,8 @@ abbrev pub losing_after : Fault → ℕ → ℕ
 losing_after (LoseReplies n) losing = n
 losing_after _ losing = losing
 
--- in sloppy mode Heal lets each replica that is up take, for each key, the copy with the greatest version among those of the replicas that
--- are up. If versions are equal it takes that of the lowest number
+-- in sloppy mode Heal gives each replica that is up, for each key, the copy with the greatest version at the replicas that are up. Of equal
+-- versions, the copy of the lowest number
 abbrev pub rows_after : Mode → ℕ → Links → Fault → List (ℕ × List Held) → List (ℕ × List Held)
 rows_after Sloppy n links Heal rows = map (healed_entry (ups n links)) rows
 rows_after mode n links fault rows = rows
@@ -169,7 +169,7 @@ AreBelow n numbers = IsTrue (are_below n numbers)
 abbrev pub MayStrike : ℕ → Fault → Type 0
 MayStrike n fault = AreOnce (numbers_of fault) × AreBelow n (numbers_of fault)
 
--- why a fault is refused: a replica is named twice, else one is none of the store
+-- the refusals of a fault. BadValue: it names a replica twice. NoSuchReplica: it names each once, but one is not in the store
 abbrev pub FaultRefused : ℕ → Fault → Refusal → Type 0
 FaultRefused n fault BadValue = ¬ AreOnce (numbers_of fault)
 FaultRefused n fault NoSuchReplica = AreOnce (numbers_of fault) × ¬ AreBelow n (numbers_of fault)

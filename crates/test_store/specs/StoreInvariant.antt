@@ -9,7 +9,7 @@ use Rattle.test_store.specs.declared.store.Change.TheVariants.{Nothing, Same, Se
 use Rattle.test_store.specs.Copies.{RowsView}
 use Rattle.test_store.specs.Store.{Cluster, with_row, links_after, losing_after, MayStrike, IsCount}
 
--- the store that the parts stand for
+-- the store with these parts
 abbrev pub cluster_of : Mode → ModelKind → ℕ → RowsView → Links → ℕ → Cluster
 cluster_of mode kind replicas table links losing = record {
   mode = mode;
@@ -20,7 +20,7 @@ cluster_of mode kind replicas table links losing = record {
   losing = losing;
 }
 
--- the rows: those that were changed, if any were
+-- the rows after a change: the changed rows, if there are any, else the same rows
 abbrev pub rows_with : Option RowsView → List (ℕ × List Held) → List (ℕ × List Held)
 rows_with None rows = rows
 rows_with (Some changed) rows = changed.rows
@@ -40,7 +40,7 @@ next_of s (Strike fault rows) = Some (record s {
   losing = losing_after fault s.losing;
 })
 
--- there is room for the row that is prepared, a reply that is to be lost, and a prepared fault names replicas of the store
+-- the conditions of a prepared change: room for its row, a reply left to lose if it loses one, and a fault that names replicas of the store
 abbrev pub IsReady : ℕ → RowsView → ℕ → Change → Type 0
 IsReady replicas table losing (Serve key row lost) = (0 < table.room) × (lost ≡ true → 0 < losing)
 IsReady replicas table losing (Strike fault rows) = MayStrike replicas fault

@@ -19,12 +19,12 @@ Truth kind = ℕ → (object_of kind).State
 abbrev pub start_truth : (kind : ModelKind) → Truth kind
 start_truth kind key = (object_of kind).start
 
--- how many of the row have the version
+-- how many copies in the row have version v
 abbrev pub with_version : ℕ → List Held → ℕ
 with_version v row = count_by (λ held. nat_eq held.version v) row
 
--- this is the true state of a key, with this row at its n replicas. More than half of them hold it with the greatest version, and so does
--- each that holds that version
+-- `state` is the true state of a key, and `row` has its copies at n replicas. More than half of the copies have the greatest version, and
+-- each copy of that version holds the true state
 pub record TrueState (kind : ModelKind) (n : ℕ) (row : List Held)
     (state : (object_of kind).State) : Type 0 where
   pub version : ℕ
@@ -34,11 +34,11 @@ pub record TrueState (kind : ModelKind) (n : ℕ) (row : List Held)
   pub same : (held : Held) → Contains row held → held.version ≡ version
       → held.state ≡ any kind state
 
--- the store holds these true states
+-- the store holds these true states: of each key, the true state
 abbrev pub IsTrueOf : (kind : ModelKind) → Cluster → Truth kind → Type 0
 IsTrueOf kind s truth = (key : ℕ) → TrueState kind s.replicas (row_of s key) (truth key)
 
--- the operation takes place in the true state of its key, finds this, and leaves all other keys as they are
+-- the operation takes place in the true state of its key with the answer `found`, and changes no other key
 abbrev pub TrulySteps : (kind : ModelKind) → Truth kind → Op → Found → Truth kind → Type 0
 TrulySteps kind old op found new =
     (object_of kind).Steps (old op.key) op found (new op.key)
@@ -50,14 +50,14 @@ MayServeTruly kind old op (Done found) new = TrulySteps kind old op found new
 MayServeTruly kind old op Lost new = (found : Found) × TrulySteps kind old op found new
 MayServeTruly kind old op Refused new = new ≡ old
 
--- the effect of a serve on the truth of a strict store: it holds a truth again, which is the one of the outcome
+-- the effect of a serve on a strict store: the true states change as the outcome says
 abbrev pub KeepsTruth : Cluster → Op → Outcome → Cluster → Type 0
 KeepsTruth old op outcome new =
     (kind : ModelKind) (truth : Truth kind) → old.mode ≡ Strict → IsTrueOf kind old truth
     → (truth' : Truth kind) × MayServeTruly kind truth op outcome truth' × IsTrueOf kind new truth'
     × (new.mode ≡ Strict)
 
--- the same of a fault, which leaves the truth as it is
+-- the effect of a fault on a strict store: the true states stay
 abbrev pub LeavesTruth : Cluster → Cluster → Type 0
 LeavesTruth old new =
     (kind : ModelKind) (truth : Truth kind) → old.mode ≡ Strict → IsTrueOf kind old truth

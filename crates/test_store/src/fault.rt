@@ -1,4 +1,4 @@
-//! Which faults may strike a store.
+//! Tests whether a fault may strike a store.
 ghost use Rattle.std.specs.Prelude.{◌≡◌, ◌↔◌, ℕ, List, ◌++◌, length, IsTrue, MatchBool, OnOk, IfErr};
 ghost use Rattle.std.specs.List.{concat};
 ghost use Rattle.test_store.specs.Store.{AreOnce, are_below, MayStrike, FaultRefused, losing_after, numbers_of};
@@ -8,10 +8,11 @@ ghost use Rattle.edn.specs.declared.refusal.Refusal.{Refusal};
 use edn::Refusal;
 use events::{Fault, Groups};
 
-/// Tests whether a fault names replicas of a store with `replicas` of them, each once.
+/// Tests whether a fault names only replicas of a store with `replicas` replicas, each at most once.
 ///
 /// # Errors
-/// [`Refusal::BadValue`] if one is named twice, else [`Refusal::NoSuchReplica`] if one is none of the store.
+/// [`Refusal::BadValue`] if the fault names a replica twice, otherwise [`Refusal::NoSuchReplica`] if it names a replica that the store does
+/// not have.
 pub(crate) fn test(replicas: u8, fault: &Fault) -> Result<(), Refusal>
     ensures ok { OnOk result (MayStrike replicas fault.now) }
     ensures refused { IfErr result (FaultRefused replicas fault.now) }
@@ -25,7 +26,7 @@ pub(crate) fn test(replicas: u8, fault: &Fault) -> Result<(), Refusal>
     Ok(())
 }
 
-/// Whether a fault names no replica twice. Costs O(a partition's groups).
+/// Returns whether a fault names no replica twice. Costs O(groups of a partition).
 pub fn names_once(fault: &Fault) -> bool
     ensures { IsTrue result ↔ AreOnce (numbers_of fault.now) }
 {
@@ -35,7 +36,7 @@ pub fn names_once(fault: &Fault) -> bool
     }
 }
 
-/// Whether a fault names replicas below this number alone. Costs O(a partition's groups).
+/// Returns whether a fault names only replicas with numbers below `replicas`. Costs O(groups of a partition).
 pub fn names_present(replicas: u8, fault: &Fault) -> bool
     ensures { result ≡ are_below replicas (numbers_of fault.now) }
 {
@@ -50,7 +51,7 @@ pub fn names_present(replicas: u8, fault: &Fault) -> bool
     }
 }
 
-/// How many replies are still to be lost after a fault.
+/// Returns how many replies are still to be lost after a fault.
 pub(crate) fn losing_after(fault: &Fault, losing: u16) -> u16
     ensures { result ≡ losing_after fault.now losing }
 {
@@ -60,7 +61,7 @@ pub(crate) fn losing_after(fault: &Fault, losing: u16) -> u16
     }
 }
 
-// Whether the groups have each number at most once.
+// Returns whether the groups contain each number at most once.
 fn are_once(groups: &Groups) -> bool
     ensures { IsTrue result ↔ AreOnce (concat groups.now) }
 {
@@ -73,7 +74,7 @@ fn are_once(groups: &Groups) -> bool
     true
 }
 
-// Marks the numbers. It answers false if one is marked already.
+// Marks the numbers. Returns false if one of them is already marked.
 fn mark(numbers: &[u8], seen: &mut [bool]) -> bool
     requires { length seen.old ≡ 256 }
     ensures { (before : List ℕ) → HasMarked seen.old before → MatchBool result
@@ -90,7 +91,7 @@ fn mark(numbers: &[u8], seen: &mut [bool]) -> bool
     true
 }
 
-// Whether each number in the groups is below n.
+// Returns whether each number in the groups is below `n`.
 fn are_below(groups: &Groups, n: u8) -> bool
     ensures { result ≡ are_below n (concat groups.now) }
 {
@@ -102,7 +103,7 @@ fn are_below(groups: &Groups, n: u8) -> bool
     true
 }
 
-// Whether each number is below n.
+// Returns whether each number is below `n`.
 fn all_below(numbers: &[u8], n: u8) -> bool
     ensures { result ≡ are_below n numbers.now }
 {

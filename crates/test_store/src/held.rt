@@ -10,14 +10,14 @@ use std::marker::Model;
 /// The copy of one key at one replica.
 #[derive(Drop)]
 pub struct Held {
-    /// How often the key was changed, as far as the replica knows.
+    /// The number of changes to the key that the replica knows of.
     pub version: u64,
     pub state: AnyState,
 }
 
 impl Held {
-    /// An equal copy, which shares the items of a queue with an order; `AllocError` if there is no memory for it, or as many share them as
-    /// can be counted. Costs O(values) for a queue without an order, and O(spans) for a set.
+    /// Returns an equal copy, which shares the items of a FIFO queue. Costs O(values) for an unordered queue, and O(spans) for a set.
+    /// `AllocError` if an allocation fails, or if the number of queues that share the items cannot grow any more.
     pub fn copy(&self, alloc: Global) -> Result<Held, AllocError>
         ensures { IfOk result (λ other. other ≡ self.now) }
     {
@@ -29,23 +29,27 @@ impl Held {
     }
 }
 
-/// The copies of one key at the replicas, by their numbers.
+/// The copies of one key at the replicas, in the order of the replicas' numbers.
 #[derive(Drop)]
 pub struct Row {
     held: Vec<Held>,
 }
 
 impl Model for Row {
+    ghost use Rattle.std.specs.Coded.{codes};
+    ghost use Rattle.kinds.specs.contracts.any_state.AnyState as any_state;
     ghost use Rattle.std.specs.Prelude.{List};
     ghost use Rattle.test_store.specs.declared.held.Held.{Held};
 
     ghost Value = { List Held };
 
+    ghost coded = { Prim.hlevel (codes, any_state.the_row.coded) };
+
     ghost view = { λ a. a.held.items };
 }
 
 impl Row {
-    /// The row of a key that was never changed.
+    /// Returns the row of a key that was never changed.
     pub(crate) fn fresh(alloc: Global, replicas: usize, kind: ModelKind) -> Result<Row, AllocError>
         ensures { IfOk result (λ row. row ≡ fresh_row replicas kind) }
     {
@@ -59,14 +63,14 @@ impl Row {
         Ok(Row { held })
     }
 
-    /// The copies at the replicas, by their numbers.
+    /// Returns the copies at the replicas, in the order of the replicas' numbers.
     pub(crate) fn held(&self) -> &[Held]
         ensures { result.now ≡ self.now }
     {
         self.held.as_slice()
     }
 
-    /// An equal row, with memory of its own.
+    /// Returns an equal row, with memory of its own.
     pub(crate) fn copy(&self, alloc: Global) -> Result<Row, AllocError>
         ensures { IfOk result (λ other. other ≡ self.now) }
     {
@@ -78,7 +82,8 @@ impl Row {
     }
 }
 
-/// The copy with the greatest version on the chosen replicas; if several have it, the copy of the replica with the lowest number.
+/// Returns the copy with the greatest version on the chosen replicas, or `None` if no replica is chosen. If several replicas have it, the
+/// copy of the lowest number is returned.
 pub(crate) fn newest<'a>(chosen: &[bool], row: &'a [Held]) -> Option<&'a Held>
     ensures { option_copied result ≡ newest chosen.now row.now }
 {
@@ -100,7 +105,7 @@ pub(crate) fn newest<'a>(chosen: &[bool], row: &'a [Held]) -> Option<&'a Held>
     }
 }
 
-/// The row in which each chosen replica has taken over this version and state.
+/// Returns the row in which each chosen replica has taken over `version` and `state`.
 pub(crate) fn taken_over(
     alloc: Global,
     chosen: &[bool],
@@ -126,7 +131,7 @@ pub(crate) fn taken_over(
     Ok(Row { held })
 }
 
-// Whether the flag with this number is set.
+// Returns whether the flag with this number is set. A flag that does not exist is not set.
 fn stands(flags: &[bool], number: usize) -> bool
     ensures { result ≡ slice_index_or flags.now number false }
 {

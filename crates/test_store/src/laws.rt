@@ -1,4 +1,4 @@
-//! Laws of the store.
+//! Laws about the store.
 ghost use Rattle.std.specs.Prelude.{◌≡◌, ℕ, ◌+◌};
 ghost use Rattle.models.specs.declared.operation.Op.{Op};
 ghost use Rattle.kinds.specs.declared.model_kind.ModelKind.{ModelKind};
@@ -9,9 +9,10 @@ ghost use Rattle.test_store.specs.declared.outcome.Outcome.{Outcome};
 ghost use Rattle.test_store.specs.Store.{Cluster, opening, MayServe, after_fault, IsCount, VersionsWithin};
 ghost use Rattle.test_store.specs.Truth.{start_truth, IsTrueOf, KeepsTruth, LeavesTruth};
 
-/// In strict mode the store holds one true state of each key, as one copy would: at first the start states. A serve that is done or lost
-/// steps it as the operation does. One that is refused leaves it, and so does each fault. [`Store::serve`](crate::Store::serve) and
-/// [`Store::fault`](crate::Store::fault) cite it, and the law `no_trial_is_a_false_alarm` of `machine` rests on it.
+/// In strict mode the store has one true state of each key, as if it had a single copy. At first these are the start states. A serve that
+/// is done or lost changes the true state as the operation does. A refused serve and a fault do not change it.
+/// [`Store::serve`](crate::Store::serve) and [`Store::fault`](crate::Store::fault) cite this law, and the law `no_trial_is_a_false_alarm`
+/// of `machine` depends on it.
 pub fn strict_law()
     ensures opening { (n : ℕ) (kind : ModelKind) → IsCount n
         → IsTrueOf kind (opening n Strict kind) (start_truth kind) }
@@ -20,8 +21,8 @@ pub fn strict_law()
     ensures fault { (fault : Fault) (s : Cluster) → LeavesTruth s (after_fault fault s) }
 {}
 
-/// No version is greater than the number of serves: a serve raises the greatest version by one at most, and a fault by
-/// none. `store_tests` cites it, and the law `counted_law` of `machine` rests on it.
+/// No version exceeds the number of serves. A serve raises the greatest version by at most one, and a fault does not raise it.
+/// `store_tests` cites this law, and the law `counted_law` of `machine` depends on it.
 pub fn versions_law()
     ensures opening { (n : ℕ) (mode : Mode) (kind : ModelKind)
         → VersionsWithin (opening n mode kind) 0 }
@@ -31,7 +32,7 @@ pub fn versions_law()
         → VersionsWithin s n → VersionsWithin (after_fault fault s) n }
 {}
 
-/// A serve has one outcome at most, and leads to one store. The law `one_step` of `machine` rests on it.
+/// A serve has at most one outcome, and leads to at most one store. The law `one_step` of `machine` depends on this law.
 pub fn one_serve_law()
     ensures { (old new other : Cluster) (e : ℕ) (op : Op) (outcome another : Outcome)
         → MayServe old e op outcome new → MayServe old e op another other

@@ -1,9 +1,9 @@
-//! A replicated store in the process, with faults: the store for a test under a monitor.
+//! A replicated store with faults, inside the process. Tests run it under a monitor.
 //!
-//! Each replica has a copy of each key, with a version. In the strict mode an operation takes place where its replica reaches a
-//! majority: on the newest copy among these, which each of them then takes, with the version one greater. In the sloppy mode it
-//! takes place on the replica's own copy, and the copies are brought together when a partition heals, so that such a store loses
-//! writes. Faults cut links, pause and crash replicas, and lose replies.
+//! Each replica has a copy of each key, with a version. In strict mode an operation takes place only if its replica reaches a majority. It
+//! takes place on the newest copy that they have, and each of them takes over the result with the next version. In sloppy mode it takes
+//! place on the replica's own copy. The copies are merged when a partition heals, so such a store loses writes. Faults cut links, pause and
+//! crash replicas, and lose replies.
 //!
 //! A call allocates only if its result can be `AllocError`, or a refusal because memory ran out.
 #![tactic(auto)]

@@ -1,4 +1,4 @@
-//! The rows of the keys that were ever changed.
+//! The rows of the keys that were changed at least once.
 ghost use Rattle.std.specs.Prelude.{◌≡◌, ◌<◌, ◌∷◌, ◌++◌, [], None, nat_eq, map, IfOk, OnOk};
 ghost use Rattle.std.specs.Option.{option_copied};
 ghost use Rattle.std.specs.Map.{lookup};
@@ -12,7 +12,7 @@ use std::alloc::{AllocError, Global};
 use std::collections::HashMap;
 use std::marker::Model;
 
-/// The rows of the keys that were ever changed, in the order of their first changes. A key is found in constant time.
+/// The rows of the keys that were changed at least once, in the order of their first changes. The row of a key is found in constant time.
 #[derive(Drop)]
 pub(crate) struct Rows {
     rows: Vec<(Key, Row)>,
@@ -21,12 +21,16 @@ pub(crate) struct Rows {
 }
 
 impl Model for Rows {
+    ghost use Rattle.std.specs.Coded.{codes};
+    ghost use Rattle.kinds.specs.contracts.any_state.AnyState as any_state;
     ghost use Rattle.std.specs.Prelude.{◌-◌, length, min, vec_capacity};
     ghost use Rattle.std.specs.HashMap.{spare};
     ghost use Rattle.test_store.specs.Copies.{RowsView};
     ghost use Rattle.test_store.specs.Places.{ArePlaces};
 
     ghost Value = { RowsView };
+
+    ghost coded = { Prim.hlevel (codes, any_state.the_row.coded) };
 
     ghost view = { λ a. record {
       rows = a.rows.items;
@@ -37,7 +41,7 @@ impl Model for Rows {
 }
 
 impl Rows {
-    /// No rows.
+    /// Returns a value without rows.
     pub(crate) fn new(alloc: Global) -> Rows
         ensures { result.rows ≡ [] }
     {
@@ -47,7 +51,7 @@ impl Rows {
         }
     }
 
-    /// The row of a key, if it was ever changed.
+    /// Returns the row of a key, if the key was ever changed.
     pub(crate) fn find(&self, key: Key) -> Option<&Row>
         ensures { option_copied result ≡ lookup (nat_eq key) self.now.rows }
     {
@@ -66,7 +70,7 @@ impl Rows {
         self.places.reserve(1)
     }
 
-    /// Puts the row of a key in the place of the one before.
+    /// Replaces the row of a key, or adds it if the key has none.
     pub(crate) fn put(&mut self, key: Key, row: Row)
         requires { 0 < self.old.room }
         ensures { self.new.rows ≡ insert_entry nat_eq self.old.rows key row }
@@ -77,7 +81,7 @@ impl Rows {
         }
     }
 
-    // Puts the row of a key that has none.
+    // Adds the row of a key that has none.
     fn put_new(&mut self, key: Key, row: Row)
         requires room { 0 < self.old.room }
         requires new { place_of key self.old.rows ≡ None }
@@ -89,14 +93,15 @@ impl Rows {
         }
     }
 
-    /// Equal rows, with memory of their own. No replica is chosen, so none takes anything over.
+    /// Returns equal rows, with memory of their own. Calls [`healed`](Rows::healed) with no chosen replica, so no copy changes.
     pub(crate) fn copy(&self, alloc: Global) -> Result<Rows, AllocError>
         ensures { IfOk result (λ other. other.rows ≡ self.now.rows) }
     {
         self.healed(alloc, &[])
     }
 
-    /// The rows in which each of these replicas has taken over the copy with the greatest version among theirs. Costs O(all rows).
+    /// Returns the rows in which each replica of `ups` has taken over the copy with the greatest version on these replicas. Costs O(all
+    /// rows).
     pub(crate) fn healed(&self, alloc: Global, ups: &[bool]) -> Result<Rows, AllocError>
         ensures { IfOk result (λ other. other.rows ≡ map (healed_entry ups.now) self.now.rows) }
     {
@@ -111,7 +116,7 @@ impl Rows {
     }
 }
 
-// A row in which each of these replicas has taken over the copy with the greatest version among theirs.
+// Returns the row in which each replica of `ups` has taken over the copy with the greatest version on these replicas.
 fn healed_row(alloc: Global, ups: &[bool], row: &Row) -> Result<Row, AllocError>
     ensures { IfOk result (λ other. other ≡ healed ups.now row.now) }
 {

@@ -20,7 +20,7 @@ use models::{Found, Key, Op};
 use std::alloc::{AllocError, Global};
 use std::marker::Model;
 
-/// What is prepared.
+/// The prepared change.
 #[derive(Drop)]
 enum Change {
     Nothing,
@@ -29,8 +29,8 @@ enum Change {
     Strike { fault: Fault, rows: Option<Rows> },
 }
 
-/// A replicated store in the process. Each replica holds a copy of each key with a version. A serve goes through one replica, its entry. A
-/// fault cuts, stops or crashes replicas, or loses replies. A key that was never changed takes no memory.
+/// A replicated store inside the process. Each replica has a copy of each key, with a version. A serve goes through one replica, its entry.
+/// A fault cuts links, stops or crashes replicas, or loses replies. A key that was never changed takes no memory.
 ///
 /// Each change has two halves: `prepare_serve` or `prepare_fault` returns the result, and `commit` carries it out.
 pub struct Store {
@@ -45,9 +45,14 @@ pub struct Store {
 }
 
 impl Model for Store {
+    ghost use Rattle.std.specs.Coded.{codes};
+    ghost use Rattle.kinds.specs.contracts.any_state.AnyState as any_state;
+    ghost use Rattle.kinds.specs.contracts.model_kind.ModelKind as model_kind;
     ghost use Rattle.test_store.specs.Store.{StoreView};
 
     ghost Value = { StoreView };
+
+    ghost coded = { Prim.hlevel (codes, any_state.the_row.coded, model_kind.the_row.coded) };
 
     ghost use Rattle.test_store.specs.StoreInvariant.{cluster_of, next_of, IsSound};
 
@@ -59,7 +64,7 @@ impl Model for Store {
     ghost invariant = { λ a. IsSound a.replicas a.rows a.losing a.change };
 }
 
-// So that crates above give one back by one call.
+// With this implementation, a crate above drops a store by one call.
 impl Drop for Store {
     fn drop(self) {
         let Store {
@@ -76,10 +81,11 @@ impl Drop for Store {
 }
 
 impl Store {
-    /// A store of `replicas` replicas, all up, in one group, with no key changed yet. Each key is an object of this kind. Takes no memory.
+    /// Returns a store of `replicas` replicas. All of them are up and in one group, and no key was changed. Each key is an object of this
+    /// kind. Does not allocate.
     ///
     /// # Errors
-    /// [`Refusal::NoSuchReplica`] if the number is not 1 to 7.
+    /// [`Refusal::NoSuchReplica`] if `replicas` is not 1 to 7.
     pub fn new(alloc: Global, replicas: u8, mode: Mode, kind: ModelKind) -> Result<Store, Refusal>
         ensures limits { OnOk result (IsCount replicas) }
         ensures opened { IfOk result (λ store. store ≡ at_rest (opening replicas mode kind)) }
@@ -100,7 +106,7 @@ impl Store {
         })
     }
 
-    /// How many replicas it has, 1 to 7.
+    /// Returns the number of replicas, 1 to 7.
     pub fn replicas(&self) -> u8
         ensures value { result ≡ self.now.now.replicas }
         ensures limits { IsCount result }
@@ -108,12 +114,12 @@ impl Store {
         self.replicas
     }
 
-    /// Prepares a serve of the operation at the entry, and returns its outcome, which [`commit`](Store::commit) carries out. The store
-    /// stays as it is. The entry is the number of a replica, from 0, and 2^64 - 2 is the greatest version that the key may have. Costs
-    /// O(replicas + outcomes of the operation in the key's state), for any number of keys, unless the memory grows.
+    /// Prepares a serve of the operation at the replica `entry`, and returns its outcome. [`commit`](Store::commit) carries it out; until
+    /// then the store does not change. The first replica is number 0. The key may have versions up to 2^64 - 2. Costs O(replicas + outcomes
+    /// of the operation in the key's state), for any number of keys, unless the memory grows.
     ///
     /// # Errors
-    /// `AllocError` if an allocation fails; then nothing is prepared.
+    /// `AllocError` if an allocation fails; nothing is prepared then.
     pub fn prepare_serve(&mut self, entry: u8, op: &Op) -> Result<Outcome, AllocError>
         requires entry { entry < self.old.now.replicas }
         requires versions { VersionsOf (row_of self.old.now op.now.key) (2 ^ 64 - 2) }
@@ -147,12 +153,12 @@ impl Store {
         Ok(outcome_of(lost, found))
     }
 
-    /// Prepares a fault. The store stays as it is. It costs O(replicas of the fault), and for [`Fault::Heal`] in sloppy mode O(changed
-    /// keys).
+    /// Prepares a fault. The store does not change yet. Costs O(replicas of the fault), and O(changed keys) for [`Fault::Heal`] in sloppy
+    /// mode.
     ///
     /// # Errors
-    /// [`Refusal::BadValue`] if a replica is named twice, else [`Refusal::NoSuchReplica`] if one is none of the
-    /// store, else [`Refusal::NoMemory`] if an allocation fails. Then nothing is prepared.
+    /// [`Refusal::BadValue`] if the fault names a replica twice. Otherwise [`Refusal::NoSuchReplica`] if it names a replica that the store
+    /// does not have. Otherwise [`Refusal::NoMemory`] if an allocation fails. After an error nothing is prepared.
     pub fn prepare_fault(&mut self, fault: &Fault) -> Result<(), Refusal>
         ensures may { OnOk result (MayStrike self.old.now.replicas fault.now) }
         ensures prepared { OnOk result (self.new ≡ record {
@@ -177,7 +183,7 @@ impl Store {
         Ok(())
     }
 
-    /// Carries out what is prepared. It takes no memory and cannot fail, and costs the drop of the old parts.
+    /// Carries out the prepared change. Does not allocate and cannot fail. Costs the drop of the replaced parts.
     pub fn commit(&mut self)
         requires { IsSome self.old.next }
         ensures { IfSome self.old.next (λ next. self.new ≡ at_rest next) }
@@ -201,8 +207,8 @@ impl Store {
         }
     }
 
-    /// Serves the operation at the entry: [`prepare_serve`](Store::prepare_serve) and [`commit`](Store::commit) in one,
-    /// with the time of both.
+    /// Serves the operation at the replica `entry`. Does the same as [`prepare_serve`](Store::prepare_serve) and [`commit`](Store::commit),
+    /// at the cost of both.
     ///
     /// # Errors
     /// `AllocError` if an allocation fails; the store is then as it was.
@@ -211,7 +217,7 @@ impl Store {
         requires versions { VersionsOf (row_of self.old.now op.now.key) (2 ^ 64 - 2) }
         ensures served { IfOk result (λ outcome.
             MayServe self.old.now entry op.now outcome self.new.now) }
-        // In strict mode: as one copy would.
+        // In strict mode the store answers like a single copy.
         ensures truth { IfOk result (λ outcome.
             KeepsTruth self.old.now op.now outcome self.new.now) }
         ensures rests { self.new ≡ at_rest self.new.now }
@@ -223,15 +229,14 @@ impl Store {
         Ok(outcome)
     }
 
-    /// Lets a fault strike: [`prepare_fault`](Store::prepare_fault) and [`commit`](Store::commit) in one, with the time of
-    /// both.
+    /// Lets a fault strike. Does the same as [`prepare_fault`](Store::prepare_fault) and [`commit`](Store::commit), at the cost of both.
     ///
     /// # Errors
     /// Those of [`prepare_fault`](Store::prepare_fault); the store is then as it was.
     pub fn fault(&mut self, fault: &Fault) -> Result<(), Refusal>
         ensures may { OnOk result (MayStrike self.old.now.replicas fault.now) }
         ensures struck { OnOk result (self.new.now ≡ after_fault fault.now self.old.now) }
-        // In strict mode: no fault changes the true states.
+        // In strict mode no fault changes the true states.
         ensures truth { OnOk result (LeavesTruth self.old.now self.new.now) }
         ensures refused { IfErr result (FaultRefused self.old.now.replicas fault.now) }
         ensures rests { self.new ≡ at_rest self.new.now }
@@ -243,8 +248,8 @@ impl Store {
         Ok(())
     }
 
-    /// An equal store with nothing prepared, and memory of its own except for the shared items of queues with an order. `AllocError` if
-    /// there is none, or as many share the items as can be counted. It costs O(changed keys).
+    /// Returns an equal store with nothing prepared. It has memory of its own, but shares the items of FIFO queues. Costs O(changed keys).
+    /// `AllocError` if an allocation fails, or if the number of queues that share the items cannot grow any more.
     pub fn copy(&self) -> Result<Store, AllocError>
         ensures { IfOk result (λ other. other ≡ at_rest self.now.now) }
     {
@@ -263,7 +268,7 @@ impl Store {
     }
 }
 
-// The outcome of an operation with this answer.
+// Returns the outcome of an operation that found `found` and whose reply was lost if `lost`.
 fn outcome_of(lost: bool, found: Found) -> Outcome
     ensures { result ≡ (if lost then Outcome.Lost else Outcome.Done found) }
 {
@@ -274,7 +279,7 @@ fn outcome_of(lost: bool, found: Found) -> Outcome
     }
 }
 
-// The result of the operation: nothing if it can't take place, else the row that it leaves and its answer.
+// Returns the row that the operation leaves and the found value, or `None` if the operation cannot take place.
 fn attempt(
     alloc: Global,
     mode: Mode,
@@ -301,8 +306,8 @@ fn attempt(
     }
 }
 
-// The result of the operation if the replicas hold these copies of its key: nothing if it can't take place, else the row that it leaves and
-// its answer.
+// Returns the row that the operation leaves and the found value, or `None` if the operation cannot take place. `row` has the replicas'
+// copies of its key.
 fn take(
     alloc: Global,
     mode: Mode,
@@ -334,7 +339,7 @@ fn take(
     Ok(Some((next, found)))
 }
 
-// The result of the operation in the state: the first of its outcomes, or nothing, if it has none.
+// Returns the first outcome of the operation in the state, or `None` if it has no outcome.
 fn first_outcome(
     alloc: Global,
     state: &AnyState,
@@ -347,7 +352,7 @@ fn first_outcome(
     Ok(outcomes.pop())
 }
 
-// Whether the entry may serve.
+// Returns whether the replica `entry` may serve.
 fn may_serve(mode: Mode, replicas: usize, links: &Links, entry: usize) -> bool
     requires { entry < 7 }
     ensures { result ≡ may_serve mode replicas links.now entry }
@@ -359,7 +364,7 @@ fn may_serve(mode: Mode, replicas: usize, links: &Links, entry: usize) -> bool
     }
 }
 
-// The replicas that serve.
+// Returns for each replica whether it takes part in the serve at `entry`.
 fn servers(mode: Mode, replicas: usize, links: &Links, entry: usize) -> [bool; 7]
     requires { entry < 7 }
     ensures { result ≡ servers mode replicas links.now entry }
@@ -370,7 +375,7 @@ fn servers(mode: Mode, replicas: usize, links: &Links, entry: usize) -> [bool; 7
     }
 }
 
-// Whether more than half of the replicas are chosen.
+// Returns whether more than half of the replicas are chosen.
 fn is_majority(replicas: usize, chosen: &[bool]) -> bool
     requires { length chosen.now ≡ 7 }
     ensures { result ≡ is_majority replicas chosen.now }
@@ -378,7 +383,7 @@ fn is_majority(replicas: usize, chosen: &[bool]) -> bool
     replicas < 2 * count(chosen)
 }
 
-// The rows after a fault, if it changes any.
+// Returns the rows after a fault, or `None` if the fault does not change them.
 fn rows_after(
     alloc: Global,
     mode: Mode,

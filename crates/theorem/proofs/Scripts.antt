@@ -8,6 +8,7 @@ use Rattle.line_loop.specs.ReplyText.{Replies, IsReplyText}
 use Rattle.line_loop.specs.Logs.{Logged}
 use Rattle.line_loop.specs.Live.{HoldsNothingBack, IsLive}
 use Rattle.line_loop.specs.Stopping.{Finishes, IsAnswered, IsBeginning, IsUpToDate, KeepsUp, Stops}
+use Rattle.object_kinds.specs.declared.keeping.Objects.{Objects}
 use Rattle.script_command.specs.Reply.{MayReply, Script, Shows, script, after}
 use Rattle.theorem.specs.Theorem.{Answers, EndsBy, Session, opened}
 use Rattle.theorem.specs.Bridges.{session_of}
@@ -20,14 +21,14 @@ reply : (old new : Script) (line text : List ℕ) → HasHistory old.machine →
 reply old new line text h a = (
   λ is_open.
       let (machine, is_refused, answers, at) = a.0 is_open in
-      (machine.judged, is_refused, line_answered old.machine machine line text is_refused h answers, ap session_of at),
+      (machine.judged, is_refused, line_answered old.objects old.machine machine line text is_refused h answers, ap session_of at),
   λ closed. let (none, same) = a.1 closed in (none, ap session_of same),
 )
 
 kept : (old new : Script) (line text : List ℕ) (is_closed : Bool) → old.is_closed ≡ is_closed → HasHistory old.machine → MayReply old line text new → HasHistory new.machine
 kept old new line text false is_open h a =
     let (machine, is_refused, answers, at) = a.0 is_open in
-    subst (λ s. HasHistory s.machine) (sym at) (line_kept old.machine machine line text is_refused h answers)
+    subst (λ s. HasHistory s.machine) (sym at) (line_kept old.objects old.machine machine line text is_refused h answers)
 kept old new line text true closed h a = let (none, same) = a.1 closed in subst (λ s. HasHistory s.machine) (sym same) h
 
 -- lines in turn
@@ -46,12 +47,12 @@ all_kept old new (line ∷ lines) text h r =
 
 -- scripts
 
-module _ (setup : Setup) (is_strict : Bool) where
+module _ (objects : Objects) (setup : Setup) (is_strict : Bool) where
   abbrev begun : Script
-  begun = script setup is_strict
+  begun = script objects setup is_strict
 
   abbrev session : Session
-  session = opened setup.concurrency setup.kind setup.budget is_strict
+  session = opened objects setup.concurrency setup.kind setup.budget is_strict
 
   history : HasHistory (opening setup)
   history = no_history setup.concurrency

@@ -10,6 +10,7 @@ use Rattle.machine.specs.declared.command.Command.TheVariants.{Append, Rewind, S
 use Rattle.machine.specs.Machine.{Setup}
 use Rattle.machine.proofs.Pushes.{history-push, no_history}
 use Rattle.line_loop.specs.ReplyText.{Replies, line_limit}
+use Rattle.object_kinds.specs.declared.keeping.Objects.{Objects}
 use Rattle.script_command.specs.declared.command.LineCommand.{LineCommand}
 use Rattle.script_command.specs.declared.command.LineCommand.TheVariants.{Hello, Step}
 use Rattle.theorem.specs.Theorem.{Changes, CarriesOut, AnswersTo, AnswersLine, Answers, Session, opened}
@@ -39,8 +40,8 @@ answered c old new (Ok (Some Hello)) text is_refused a h = to c old new a.2 h
 answered c old new (Ok (Some (Step command))) text is_refused a h = carried_out c old new command text is_refused a h
 answered c old new (Err why) text is_refused a h = to c old new a.2 h
 
-line_kept : (c : ℕ) (old new : JudgedHistory) (line text : List ℕ) (is_refused : Bool) → AnswersLine old line text is_refused new → IsHistoryBy c old → IsHistoryBy c new
-line_kept c old new line text is_refused a h = elim (leb_tells (length line) line_limit) as (λ _. IsHistoryBy c new) [
+line_kept : (objects : Objects) (c : ℕ) (old new : JudgedHistory) (line text : List ℕ) (is_refused : Bool) → AnswersLine objects old line text is_refused new → IsHistoryBy c old → IsHistoryBy c new
+line_kept objects c old new line text is_refused a h = elim (leb_tells (length line) line_limit) as (λ _. IsHistoryBy c new) [
   | inl p ↦
       let (asked, asks, answers) = a.within p.1 in
       answered c old new asked text is_refused answers h
@@ -50,7 +51,7 @@ line_kept c old new line text is_refused a h = elim (leb_tells (length line) lin
 kept : (c : ℕ) (old new : Session) (line text : List ℕ) (is_closed : Bool) → old.is_closed ≡ is_closed → Answers old line text new → IsHistoryBy c old.history → IsHistoryBy c new.history
 kept c old new line text false is_open a h =
     let (history, is_refused, answers, at) = a.0 is_open in
-    subst (λ (s : Session). IsHistoryBy c s.history) (sym at) (line_kept c old.history history line text is_refused answers h)
+    subst (λ (s : Session). IsHistoryBy c s.history) (sym at) (line_kept old.objects c old.history history line text is_refused answers h)
 kept c old new line text true closed a h = subst (λ (s : Session). IsHistoryBy c s.history) (sym (a.1 closed).1) h
 
 all_kept : (c : ℕ) (old new : Session) (lines : List (List ℕ)) (text : List ℕ) → Replies Answers old lines text new → IsHistoryBy c old.history → IsHistoryBy c new.history
@@ -59,8 +60,8 @@ all_kept c old new (line ∷ lines) text r h =
     let (mid, first, others, one, later, is) = r in
     all_kept c mid new lines others later (kept c old mid line first old.is_closed refl one h)
 
-pub well_formed : (setup : Setup) (is_strict : Bool) (lines : List (List ℕ)) (text : List ℕ) (end : Session) → Replies Answers (opened setup.concurrency setup.kind setup.budget is_strict) lines text end
+pub well_formed : (objects : Objects) (setup : Setup) (is_strict : Bool) (lines : List (List ℕ)) (text : List ℕ) (end : Session) → Replies Answers (opened objects setup.concurrency setup.kind setup.budget is_strict) lines text end
     → IsHistoryOf setup.concurrency end.history.events
-well_formed setup is_strict lines text end r =
-    let h = all_kept setup.concurrency (opened setup.concurrency setup.kind setup.budget is_strict) end lines text r (refl, no_history setup.concurrency) in
+well_formed objects setup is_strict lines text end r =
+    let h = all_kept setup.concurrency (opened objects setup.concurrency setup.kind setup.budget is_strict) end lines text r (refl, no_history setup.concurrency) in
     subst (λ c. IsHistoryOf c end.history.events) h.0 h.1

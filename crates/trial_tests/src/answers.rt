@@ -6,7 +6,7 @@ use linspec::Verdict;
 use models::Found;
 use test_store::Outcome;
 
-/// What a fault does.
+/// The kind of a fault that struck.
 #[derive(Clone, Copy, PartialEq, Eq)]
 pub(crate) enum Struck {
     Partition,
@@ -22,26 +22,26 @@ pub(crate) enum Answer {
     /// The key, and the index of the event.
     Illegal(u16, u32),
     Unknown(u16, u32),
-    /// The ticket, and the index of its invocation.
+    /// The ticket, and the index of its operation's invocation.
     Drawn(u32, u32),
     Pending,
     Over,
-    /// A serve took place, and found nothing of its own.
+    /// The operation took place, and found no value.
     Done,
-    /// A serve found this in a register.
+    /// The operation took place, and found this value of a register.
     Found(Option<i64>),
     FoundOther,
     NotDone,
     Lost,
     /// The fault, and the index of its event.
     Fault(Struck, u32),
-    /// The number of the refusal. The history and its verdict are as before.
+    /// The number of the refusal. The history and its verdict did not change.
     Refused(u8),
-    /// A refusal that changed the history or its verdict.
+    /// The number of a refusal that changed the history or its verdict.
     RefusedAndChanged(u8),
 }
 
-/// A verdict.
+/// Returns a verdict as plain data.
 pub(crate) fn verdict_said(verdict: Verdict) -> Answer {
     match verdict {
         Verdict::Legal => Answer::Legal,
@@ -59,7 +59,7 @@ fn struck_by(fault: &Fault) -> Struck {
     }
 }
 
-/// A reply.
+/// Returns a reply as plain data.
 pub(crate) fn reply_said(reply: &Reply) -> Answer {
     match reply {
         Reply::Verdict(verdict) => verdict_said(*verdict),
@@ -75,12 +75,12 @@ pub(crate) fn reply_said(reply: &Reply) -> Answer {
     }
 }
 
-// How many events there are, and the verdict on them.
+// Returns the number of events, and the verdict on them.
 fn standing(core: &Core) -> (u32, Answer) {
     (core.monitor().history().len(), verdict_said(core.verdict()))
 }
 
-/// The answer to the command.
+/// Returns the answer to the command.
 pub(crate) fn answer_of(core: &mut Core, command: Command) -> Answer {
     let before = standing(core);
     match core.step(command) {
@@ -90,10 +90,10 @@ pub(crate) fn answer_of(core: &mut Core, command: Command) -> Answer {
     }
 }
 
-/// A command, and how it is to be answered.
+/// A command, and its expected answer.
 pub(crate) type Row = (Ask, Answer);
 
-/// Whether each command is answered so.
+/// Returns whether each command has its expected answer.
 pub(crate) fn are_answered(core: &mut Core, rows: &[Row]) -> bool {
     for (ask, want) in rows {
         if answer_of(core, command_of(*ask)) != *want {
@@ -103,7 +103,7 @@ pub(crate) fn are_answered(core: &mut Core, rows: &[Row]) -> bool {
     true
 }
 
-/// Whether the events are of these kinds, by these processes.
+/// Returns whether the events have these kinds and processes.
 pub(crate) fn events_are(core: &Core, want: &[(EventKind, Process)]) -> bool {
     let events = core.monitor().history().events();
     if events.len() != want.len() {

@@ -22,8 +22,8 @@ const FULL: [Row; 11] = [
     (Finish(0), Answer::Refused(7)),
 ];
 
-// No event comes in: none that is handed in, no invocation, no completion and no fault. The tests before that one come
-// first all the same. After a cut there is room again.
+// Every event is refused: one that is handed in, an invocation, a completion and a fault. The earlier tests still have priority. After a
+// cut there is room again.
 const TRIAL: Trial = Trial {
     mode: Mode::Strict,
     numbers: NUMBERS,

@@ -1,4 +1,4 @@
-//! The two halves of commands.
+//! The preparation and the commit of commands.
 use crate::answers::{Answer, Row, Struck};
 use crate::setups::Ask::{Draw, Finish, Nemesis, Serve, Verdict, Write as WriteOf};
 use crate::setups::Given::Write;
@@ -30,7 +30,7 @@ const LATE: [Prepared; 2] = [
 ];
 
 pub(crate) const TRIALS: [Trial; 2] = [
-    // Each command of a trial is prepared twice with the same answer, and then is committed.
+    // Each command of a trial is prepared twice with the same answer, and then committed.
     Trial {
         mode: Mode::Strict,
         numbers: NUMBERS,
@@ -38,7 +38,7 @@ pub(crate) const TRIALS: [Trial; 2] = [
         fault: Some((0, Plain::LoseReplies(1))),
         stages: &[Stage::Twice(&ROWS)],
     },
-    // A prepared event changes nothing until it is committed, and the next command takes its place.
+    // A prepared event changes nothing until it is committed, and the next command replaces it.
     Trial {
         mode: Mode::Strict,
         numbers: (1, 1, 1),

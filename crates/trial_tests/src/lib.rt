@@ -1,5 +1,5 @@
-//! Worked rows of trials on a `Core`: draws, serves, completions and faults, with every refusal that such commands meet, and thousands of
-//! steps under faults. Each answer follows from the definitions by hand. It has tests alone.
+//! Examples of trials on a `Core`: draws, serves, completions and faults, with every refusal of these commands, and thousands of steps
+//! under faults. Each answer follows by hand from the definitions. The crate has only tests.
 #![tactic(auto)]
 
 #[cfg(test)]

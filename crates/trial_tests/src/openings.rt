@@ -1,4 +1,4 @@
-//! Cores that are not opened, each by the first test that it does not pass.
+//! Configurations that are refused, each by the first test that it does not pass.
 use crate::setups::{Given, NUMBERS, Numbers, Plain, Setup, Source, open};
 use edn::Refusal;
 use harness::{Config, Core};
@@ -6,7 +6,7 @@ use kinds::ModelKind;
 use std::alloc::Global;
 use test_store::Mode;
 
-/// The numbers, the generator and the fault of an opening, and the number of its refusal, 0 if it is opened.
+/// The numbers, the generator and the fault of a configuration, and the number of its refusal, or 0 if it is opened.
 type Opening = (Numbers, Source, Option<Plain>, u8);
 
 fn said(opened: Result<Core, Refusal>) -> u8 {
@@ -43,7 +43,7 @@ const BOTH: Plain = Plain::Partition(&[0], &[0, 3]);
 const RIGHT: Plain = Plain::Partition(&[0], &[2, 1]);
 
 const OPENINGS: [Opening; 30] = [
-    // Each number below and above its limits, and at them.
+    // Each number below its limits, above them, and at them.
     ((0, 2, 3), READS, None, 9),
     ((65_537, 2, 3), READS, None, 9),
     ((4096, 0, 3), READS, None, 10),
@@ -52,7 +52,7 @@ const OPENINGS: [Opening; 30] = [
     ((4096, 2, 8), READS, None, 18),
     ((1, 1, 1), READS, None, 0),
     ((65_536, 64, 7), READS, None, 0),
-    // Faults as a schedule has them, and as a generator gives them.
+    // Faults of a schedule, and faults of a generator.
     (NUMBERS, READS, Some(Plain::Pause(3)), 18),
     (NUMBERS, READS, Some(ABSENT), 18),
     (NUMBERS, READS, Some(TWICE), 5),
@@ -75,12 +75,12 @@ const OPENINGS: [Opening; 30] = [
         None,
         0,
     ),
-    // Operations with a part that their name does not have, and one with its own.
+    // Operations with a part that their name does not have, and one with a part that it has.
     (NUMBERS, Source::Clients(&[Given::WriteOfNil]), None, 5),
     (NUMBERS, Source::Clients(&[Given::ReadOf(5)]), None, 5),
     (NUMBERS, Source::Clients(&[Given::CasOf(5)]), None, 5),
     (NUMBERS, Source::Clients(&[Given::Cas(1, 2)]), None, 0),
-    // All that can be wrong is, and is put right one by one.
+    // Everything is wrong at first, and is corrected step by step.
     ((0, 65, 0), READS, Some(Plain::Crash(3)), 9),
     ((4096, 65, 0), READS, Some(Plain::Crash(3)), 10),
     ((4096, 2, 0), READS, Some(Plain::Crash(3)), 18),
@@ -89,7 +89,7 @@ const OPENINGS: [Opening; 30] = [
     ((4096, 2, 3), READS, Some(Plain::Heal), 0),
 ];
 
-// Of a core that only judges, by its concurrency and budget.
+// Returns the number of the refusal of an object that only judges, with this concurrency and budget.
 fn refusal_of_judging(alloc: Global, concurrency: u32, budget: u32) -> u8 {
     let config = Config::judging_only(alloc, concurrency, ModelKind::Register, budget);
     said(Core::new(alloc, config))

@@ -1,4 +1,4 @@
-//! Commands that are refused. Each leaves history and verdict as they were, and the commands after it are answered as without it.
+//! Commands that are refused. Each refusal changes neither history nor verdict, and later commands have the same answers as without it.
 use crate::answers::{Answer, Row};
 use crate::setups::Ask::{
     Budget, Draw, Event, Finish, Nemesis, Numbered, Rewind, Serve, Verdict, Write as WriteOf,
@@ -74,7 +74,7 @@ const OTHERS: [Row; 9] = [
 ];
 
 pub(crate) const TRIALS: [Trial; 7] = [
-    // A thread draws if it is there and has no open operation. A draw that is refused asks no generator.
+    // A thread can draw if it exists and has no open operation. A refused draw does not ask the generator.
     Trial {
         mode: Mode::Strict,
         numbers: NUMBERS,
@@ -82,8 +82,8 @@ pub(crate) const TRIALS: [Trial; 7] = [
         fault: None,
         stages: &[Stage::Rows(&DRAWS)],
     },
-    // The ok of a served operation was handed in, so its ticket is not finished. A cut of that event alone opens the operation
-    // again, and then the ticket is finished, once.
+    // The ok of a served operation was handed in, so its ticket cannot be finished. A cut of this event alone opens the operation again,
+    // and then the ticket is finished once.
     Trial {
         mode: Mode::Strict,
         numbers: NUMBERS,
@@ -91,8 +91,8 @@ pub(crate) const TRIALS: [Trial; 7] = [
         fault: None,
         stages: &[Stage::Rows(&FINISH_AFTER_OK), Stage::Events(&FINISHED)],
     },
-    // The fail of an operation that no one has served was handed in: the store does not carry it out, and there is nothing to
-    // finish. A cut of that event alone opens it again.
+    // The fail of an operation that was not served was handed in: the store does not carry it out, and there is nothing to finish. A cut of
+    // this event alone opens the operation again.
     Trial {
         mode: Mode::Strict,
         numbers: NUMBERS,
@@ -122,7 +122,7 @@ pub(crate) const TRIALS: [Trial; 7] = [
         fault: Some((2, Plain::Heal)),
         stages: &[Stage::Rows(&IDLE_AND_OVER)],
     },
-    // Between commands of a trial an event that was handed in is refused as ever.
+    // Between the commands of a trial, an event that is handed in is refused for the usual reasons.
     Trial {
         mode: Mode::Strict,
         numbers: NUMBERS,

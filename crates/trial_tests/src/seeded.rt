@@ -1,5 +1,5 @@
-//! Trials under faults, with every choice taken from the random words of a seed. A second program in another language worked out the
-//! results. It draws, serves and judges by the definitions and shares nothing with this one.
+//! Trials under faults, in which the random words of a seed make every choice. The expected results come from a second program in another
+//! language. It draws, serves and judges by the definitions, and shares no code with this one.
 use crate::answers::{Answer, verdict_said};
 use crate::setups::Given::{Fault, Read, Write};
 use crate::setups::{Given, Plain, Setup, Source, open};
@@ -14,7 +14,7 @@ use test_store::Mode;
 
 const STEPS: u32 = 1000;
 
-// A client's next step.
+// The next step of a client.
 #[derive(Clone, Copy)]
 enum Next {
     Draw,
@@ -22,10 +22,10 @@ enum Next {
     Finish(u32),
 }
 
-// Reads of each key in turn.
+// A read of each key.
 const READS: [Given; 4] = [Read(0), Read(1), Read(2), Read(3)];
 
-// Writes of each key in turn, of several values.
+// Writes of several values to each key.
 const WRITES: [Given; 20] = [
     Write(0, 0),
     Write(1, 1),
@@ -49,7 +49,7 @@ const WRITES: [Given; 20] = [
     Write(3, 19),
 ];
 
-// The faults in turn.
+// The faults.
 const FAULTS: [Given; 15] = [
     Fault(Plain::Partition(&[0], &[1, 2])),
     Fault(Plain::Pause(1)),
@@ -68,7 +68,7 @@ const FAULTS: [Given; 15] = [
     Fault(Plain::Resume(2)),
 ];
 
-// Reads, writes and faults at random.
+// A generator of reads, writes and faults at random.
 const CHOICES: Source = Source::Mix(&READS, &WRITES, &FAULTS);
 
 fn command_of(next: Next, thread: u32) -> Command {
@@ -79,7 +79,7 @@ fn command_of(next: Next, thread: u32) -> Command {
     }
 }
 
-// The client's step after this reply.
+// Returns the next step of a client after this reply.
 fn after(next: Next, reply: &Reply) -> Next {
     match (next, reply) {
         (Next::Draw, Reply::Drawn { ticket, .. }) => Next::Serve(*ticket),
@@ -88,7 +88,7 @@ fn after(next: Next, reply: &Reply) -> Next {
     }
 }
 
-// One command: a fault, or that of a client whom the word names.
+// Makes one step: a fault, or the next command of the client that the word chooses.
 fn step(core: &mut Core, clients: &mut [Next; 3], word: u32) -> Result<(), Refusal> {
     if word % 8 == 0 {
         core.step(Command::Nemesis)?;
@@ -101,7 +101,7 @@ fn step(core: &mut Core, clients: &mut [Next; 3], word: u32) -> Result<(), Refus
     Ok(())
 }
 
-// How many operations ended so.
+// Returns the number of operations that ended with this kind of event.
 fn count(core: &Core, kind: EventKind) -> u32 {
     let mut count = 0u32;
     for event in core.monitor().history().events() {
@@ -112,7 +112,7 @@ fn count(core: &Core, kind: EventKind) -> u32 {
     count
 }
 
-// Takes the steps of a trial. Returns the first verdict that is not legal, if there is one.
+// Makes the steps of a trial. Returns the first verdict that is not legal, if there is one, and otherwise `Legal`.
 fn run(core: &mut Core, seed: u64) -> Result<Verdict, Refusal> {
     let mut words = ChaCha8Rng::seed_from_u64(seed);
     let mut clients = [Next::Draw; 3];
@@ -126,7 +126,7 @@ fn run(core: &mut Core, seed: u64) -> Result<Verdict, Refusal> {
     Ok(first)
 }
 
-// The first verdict that is not legal, and how many operations were done, failed and crashed.
+// The first verdict that is not legal, and the numbers of operations that returned, failed and crashed.
 type Ended = (Answer, [u32; 3]);
 
 fn end_of(core: &mut Core, seed: u64) -> Option<Ended> {
@@ -139,7 +139,7 @@ fn end_of(core: &mut Core, seed: u64) -> Option<Ended> {
     Some((verdict_said(first), counts))
 }
 
-// None if the trial was refused.
+// Returns the result of a trial, or `None` if the trial was refused.
 fn trial(alloc: Global, mode: Mode, seed: u64) -> Option<Ended> {
     let setup = Setup {
         mode,
@@ -154,7 +154,7 @@ fn trial(alloc: Global, mode: Mode, seed: u64) -> Option<Ended> {
     }
 }
 
-// How many operations were done, failed and crashed, by seed.
+// The numbers of operations that returned, failed and crashed, for each seed.
 const STRICT: [[u32; 3]; 10] = [
     [179, 103, 8],
     [173, 111, 8],
@@ -168,7 +168,7 @@ const STRICT: [[u32; 3]; 10] = [
     [171, 111, 8],
 ];
 
-// The key and the index at which a trial of a sloppy store stops being linearizable, by seed.
+// The key and the index at which a trial of a sloppy store stops being linearizable, for each seed.
 const SLOPPY: [Answer; 10] = [
     Answer::Illegal(0, 46),
     Answer::Illegal(3, 65),
@@ -182,7 +182,8 @@ const SLOPPY: [Answer; 10] = [
     Answer::Illegal(0, 36),
 ];
 
-// No trial of a strict store is a false alarm, and no budget is met. Each of the ten trials of a sloppy store is caught, where it should be.
+// Tests that no trial of a strict store raises a false alarm or exceeds a budget. Each of the ten trials of a sloppy store is detected at
+// the right event.
 #[test]
 fn ten_thousand_seeded_steps(rt: HostRuntime) {
     for (seed, counts) in STRICT.iter().enumerate() {

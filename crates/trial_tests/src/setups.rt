@@ -1,4 +1,4 @@
-//! How the cores of the rows are opened, and what they are asked, as plain data.
+//! The configurations and the commands of the rows, as plain data.
 use edn::Refusal;
 use events::{Body, Event, EventKind, Fault, Groups, Process};
 use generators::{Cycle, Gen, Item};
@@ -9,7 +9,7 @@ use nemesis::Schedule;
 use std::alloc::{AllocError, Global};
 use test_store::Mode;
 
-/// A command. Events are of a write.
+/// A command. Its events are about a write.
 #[derive(Clone, Copy)]
 pub(crate) enum Ask {
     Draw(u32),
@@ -17,16 +17,16 @@ pub(crate) enum Ask {
     Finish(u32),
     Nemesis,
     Rewind(u32),
-    /// The budget of key 7.
+    /// Sets the budget of key 7.
     Budget(u32),
     Verdict,
-    /// An event of a write of 5 by this process.
+    /// Hands in an event of a write of 5 by this process.
     Event(u32, EventKind),
-    /// An event of a write of this by process 0.
+    /// Hands in an event of a write of this value by process 0.
     Write(EventKind, Option<i64>),
-    /// The ok of process 0 to a write of 5, which says that it has this index.
+    /// Hands in the ok of process 0 to a write of 5, with this index.
     Numbered(u32),
-    /// A heal that was handed in.
+    /// Hands in a heal.
     Heal,
 }
 
@@ -47,7 +47,7 @@ fn event(index: Option<u32>, process: u32, kind: EventKind, value: Option<i64>) 
     })
 }
 
-/// A heal that is handed in.
+/// Returns the command that hands in a heal.
 pub(crate) fn heal() -> Command {
     Command::Append(Event {
         index: None,
@@ -57,7 +57,7 @@ pub(crate) fn heal() -> Command {
     })
 }
 
-/// The command itself.
+/// Returns the command.
 pub(crate) fn command_of(ask: Ask) -> Command {
     match ask {
         Ask::Draw(thread) => Command::Draw(thread),
@@ -93,7 +93,7 @@ fn groups(alloc: Global, a: &[u8], b: &[u8]) -> Result<Groups, AllocError> {
     Ok(Groups::new(groups))
 }
 
-// The fault itself.
+// Returns the fault.
 fn fault_of(alloc: Global, fault: Plain) -> Result<Fault, AllocError> {
     Ok(match fault {
         Plain::Partition(a, b) => Fault::Partition(groups(alloc, a, b)?),
@@ -106,7 +106,7 @@ fn fault_of(alloc: Global, fault: Plain) -> Result<Fault, AllocError> {
     })
 }
 
-// No fault, or one alone, due from this length of the history on.
+// Returns a schedule with no fault, or with a single fault that is due from this length of the history on.
 fn schedule_of(alloc: Global, fault: Option<(u32, Plain)>) -> Result<Schedule, AllocError> {
     match fault {
         Some((at, fault)) => {
@@ -123,7 +123,7 @@ pub(crate) enum Given {
     Read(Key),
     Write(Key, i64),
     Fault(Plain),
-    /// Operations on key 7 whose part their name does not have, and a cas with its own.
+    /// `WriteOfNil`, `ReadOf` and `CasOf` are operations on key 7 with a part that does not belong to their name. The part of `Cas` does.
     WriteOfNil,
     ReadOf(i64),
     CasOf(i64),
@@ -146,7 +146,7 @@ fn item_of(alloc: Global, given: Given) -> Result<Item, AllocError> {
     })
 }
 
-// These items in turn.
+// Returns a generator that cycles through these items.
 fn in_turn(alloc: Global, all: &[Given]) -> Result<Gen, AllocError> {
     let mut items = Vec::new(alloc);
     for given in all {
@@ -155,14 +155,14 @@ fn in_turn(alloc: Global, all: &[Given]) -> Result<Gen, AllocError> {
     Ok(Gen::Ops(Cycle::new(items)))
 }
 
-/// What a generator gives.
+/// The items of a generator.
 #[derive(Clone, Copy)]
 pub(crate) enum Source {
-    /// Operations to clients, in turn.
+    /// Operations for clients, in a cycle.
     Clients(&'static [Given]),
-    /// Faults to the nemesis, in turn.
+    /// Faults for the nemesis, in a cycle.
     Nemesis(&'static [Given]),
-    /// Two lists of operations to clients, and one of faults to the nemesis, at random.
+    /// Two lists of operations for clients, and one list of faults for the nemesis, at random.
     Mix(&'static [Given], &'static [Given], &'static [Given]),
 }
 
@@ -183,24 +183,24 @@ fn generator_of(alloc: Global, source: Source) -> Result<Gen, AllocError> {
     }
 }
 
-/// The budget, how many threads, and how many replicas.
+/// The budget, the number of threads, and the number of replicas.
 pub(crate) type Numbers = (u32, u32, u8);
 
-/// A budget that is large enough, two threads, three replicas.
+/// A budget that is large enough, two threads, and three replicas.
 pub(crate) const NUMBERS: Numbers = (4096, 2, 3);
 
-/// How a core of registers is opened.
+/// The configuration of a core whose keys are registers.
 #[derive(Clone, Copy)]
 pub(crate) struct Setup {
     pub(crate) mode: Mode,
     pub(crate) numbers: Numbers,
     pub(crate) source: Source,
-    /// The one fault of the schedule, and the length of the history from which on it is due.
+    /// The only fault of the schedule, and the length of the history from which on it is due.
     pub(crate) fault: Option<(u32, Plain)>,
     pub(crate) seed: u64,
 }
 
-/// The core that is opened so.
+/// Returns the core with this configuration.
 pub(crate) fn open(alloc: Global, setup: &Setup) -> Result<Core, Refusal> {
     let schedule = schedule_of(alloc, setup.fault)?;
     let generator = generator_of(alloc, setup.source)?;

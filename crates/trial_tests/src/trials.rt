@@ -1,4 +1,4 @@
-//! Trials as rows: how a core is opened, its questions and answers, and the events then.
+//! Trials as rows: the configuration of a core, its commands and answers, and its events.
 use crate::answers::{Answer, Row, are_answered, events_are, reply_said, verdict_said};
 use crate::setups::{Ask, Given, Numbers, Plain, Setup, Source, command_of, heal, open};
 use crate::{halves, refusals, worked_rows};
@@ -7,10 +7,10 @@ use harness::Core;
 use std::alloc::Global;
 use test_store::Mode;
 
-/// The most events of a history.
+/// The maximum number of events of a history.
 pub(crate) const MOST: u32 = 1_048_576;
 
-/// A command that is only prepared, its answer, and the verdict that its commit would bring.
+/// A command that is only prepared, its answer, and the verdict after its commit.
 pub(crate) type Prepared = (Ask, Answer, Option<Answer>);
 
 /// A part of a trial.
@@ -18,28 +18,28 @@ pub(crate) type Prepared = (Ask, Answer, Option<Answer>);
 pub(crate) enum Stage {
     /// Commands and their answers.
     Rows(&'static [Row]),
-    /// The same, each prepared twice before it is committed.
+    /// Commands and their answers, each prepared twice before it is committed.
     Twice(&'static [Row]),
     /// Commands that are only prepared.
     Prepared(&'static [Prepared]),
-    /// The events so far, by kind and process.
+    /// The events so far, given by kind and process.
     Events(&'static [(EventKind, Process)]),
     /// Heals are handed in until the history is full.
     Fill,
 }
 
-/// A trial of threads that are given operations in turn.
+/// A trial of threads that cycle through operations.
 #[derive(Clone, Copy)]
 pub(crate) struct Trial {
     pub(crate) mode: Mode,
     pub(crate) numbers: Numbers,
     pub(crate) given: &'static [Given],
-    /// The one fault, and the length of the history from which on it is due.
+    /// The only fault, and the length of the history from which on it is due.
     pub(crate) fault: Option<(u32, Plain)>,
     pub(crate) stages: &'static [Stage],
 }
 
-// Whether each command is prepared twice with its answer, and then is committed.
+// Returns whether each command is prepared twice with its answer, and then committed.
 fn all_prepared_twice(core: &mut Core, rows: &[Row]) -> bool {
     for (ask, want) in rows {
         let Ok((early, _)) = core.prepare(command_of(*ask)) else {
@@ -69,7 +69,7 @@ fn all_prepared(core: &mut Core, rows: &[Prepared]) -> bool {
     true
 }
 
-// Whether each heal was taken.
+// Returns whether each heal was accepted.
 fn fill(core: &mut Core) -> bool {
     for _ in core.monitor().history().len()..MOST {
         if core.step(heal()).is_err() {
@@ -79,7 +79,7 @@ fn fill(core: &mut Core) -> bool {
     true
 }
 
-// Whether each stage goes as it is told.
+// Returns whether each stage has its expected result.
 fn are_as_told(core: &mut Core, stages: &[Stage]) -> bool {
     for stage in stages {
         let goes = match *stage {
@@ -96,7 +96,7 @@ fn are_as_told(core: &mut Core, stages: &[Stage]) -> bool {
     true
 }
 
-/// Whether each answer of the trial is that of its row, and the events are those of its stages.
+/// Returns whether each answer of the trial is that of its row, and the events are those of its stages.
 pub(crate) fn goes(alloc: Global, trial: &Trial) -> bool {
     let setup = Setup {
         mode: trial.mode,

@@ -1,4 +1,4 @@
-//! Trials worked out by hand: two threads, three replicas, key 7.
+//! Trials whose answers were found by hand: two threads, three replicas, key 7.
 use crate::answers::{Answer, Row, Struck};
 use crate::setups::Ask::{Draw, Finish, Nemesis, Rewind, Serve};
 use crate::setups::Given::{Read, Write};
@@ -86,7 +86,7 @@ const LOST_AGAIN: [Row; 4] = [
 ];
 
 pub(crate) const TRIALS: [Trial; 4] = [
-    // The replica of thread 0 is cut off from the two others, so its write does not take place. That of thread 1 does.
+    // The replica of thread 0 is cut off from the two other replicas, so its write does not take place. The write of thread 1 does.
     Trial {
         mode: Mode::Strict,
         numbers: NUMBERS,
@@ -94,8 +94,8 @@ pub(crate) const TRIALS: [Trial; 4] = [
         fault: Some((0, Plain::Partition(&[0], &[1, 2]))),
         stages: &[Stage::Rows(&MINORITY), Stage::Events(&MINORITY_EVENTS)],
     },
-    // The heal takes the older write to all replicas. The newer one takes place at the replica of thread 0 alone, and then
-    // thread 1 reads the older one.
+    // The heal copies the older write to all replicas. The newer one takes place only at the replica of thread 0, and then thread 1 reads
+    // the older one.
     Trial {
         mode: Mode::Sloppy,
         numbers: NUMBERS,
@@ -103,7 +103,7 @@ pub(crate) const TRIALS: [Trial; 4] = [
         fault: Some((2, Plain::Heal)),
         stages: &[Stage::Rows(&HEAL)],
     },
-    // A ticket is served once, and is finished after its serve. The cut of its invocation makes it stale for good.
+    // A ticket is served once, and is finished after its serve. The cut of its invocation makes it stale forever.
     Trial {
         mode: Mode::Strict,
         numbers: NUMBERS,
@@ -111,8 +111,8 @@ pub(crate) const TRIALS: [Trial; 4] = [
         fault: None,
         stages: &[Stage::Rows(&STALE), Stage::Events(&STALE_EVENTS)],
     },
-    // A write whose reply is lost crashes its process, and the thread goes on with the next one. A cut of the completion alone
-    // brings the process back, and its ticket can be finished again.
+    // A write whose reply is lost crashes its process, and the thread continues with the next process. A cut of the completion alone
+    // restores the process, and its ticket can be finished again.
     Trial {
         mode: Mode::Strict,
         numbers: NUMBERS,

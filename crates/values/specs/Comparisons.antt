@@ -26,14 +26,14 @@ bool_eq-exact a b = (booleans_Decides a b).0
 pub ints_eq-exact : (a b : List ℤ) → pointwise int_eq a b ≡ true → a ≡ b
 ints_eq-exact a b = (pointwise_decides Decides-int_eq a b).0
 
--- the comparisons of lists of integers
+-- list comparison is an equivalence
 pub ints_equal : IsEquivalence (pointwise int_eq)
 ints_equal = lists_equiv int_eq_equiv
 
 pub ints_alike : IsPartialEquivalence (pointwise int_eq)
 ints_alike = partial_equiv_from_equiv ints_equal
 
--- by how many they are, then by their sums, and lists of one length and sum by their integers in turn
+-- first by length, then by sum, and then, for lists of equal length and sum, by the integers one after another
 abbrev pub ints_cmp : List ℤ → List ℤ → Ordering
 ints_cmp = then_cmp (on length nat_cmp) (then_cmp (on sum_of nat_cmp) (slice_cmp int_cmp))
 
@@ -58,25 +58,25 @@ ints_tie a b =
 pub ints_ordered : IsPartialOrder (pointwise int_eq) (λ a b. Some (ints_cmp a b))
 ints_ordered = partial_order_from_agreeing_total ints_cmp ints_ranked ints_agree ints_tie
 
--- equal lists of integers are hashed alike
+-- equal lists of integers have the same hash
 pub ints_fed : (a b : List ℤ) → pointwise int_eq a b ≡ true → fed.slice fed.i64 a ≡ fed.slice fed.i64 b
 ints_fed = (fed.same_Alike (fed.slice fed.i64) (pointwise_decides Decides-int_eq)).fed
 
--- a set by its members is hashed by their number and their sum
+-- the hash of a set with a list of members depends on their number and their sum
 abbrev pub members_fed : List ℤ → fed.HashWrites
 members_fed xs = fed.usize (length xs) ++ fed.u128 (sum_of xs)
 
 pub members_fed-alike : (a b : List ℤ) → pointwise int_eq a b ≡ true → members_fed a ≡ members_fed b
 members_fed-alike a b e = ap members_fed (ints_eq-exact a b e)
 
--- a set by its spans is hashed by the sum of its members alone
+-- the hash of a set with spans depends only on the sum of its members
 abbrev pub sum_fed : List ℤ → fed.HashWrites
 sum_fed xs = fed.u128 (sum_of xs)
 
 pub sum_fed-alike : (a b : List ℤ) → pointwise int_eq a b ≡ true → sum_fed a ≡ sum_fed b
 sum_fed-alike a b e = ap sum_fed (ints_eq-exact a b e)
 
--- the items of a queue are hashed by their sum alone
+-- the hash of a queue's items depends only on their sum
 abbrev pub rolled_fed : List ℤ → fed.HashWrites
 rolled_fed xs = fed.u128 (rolled xs)
 

@@ -2,12 +2,12 @@
 use Rattle.std.specs.Prelude.{ℤ, ◌<ℤ◌, int_lt, List, [], ◌∷◌, if◌then◌else◌}
 use Rattle.std.specs.List.{Contains}
 
--- each member is below every later one, so that none is there twice
+-- each member is below every later one, so no member is repeated
 abbrev pub IsAscending : List ℤ → Type 0
 IsAscending [] = Unit {0}
 IsAscending (x ∷ xs) = ((y : ℤ) → Contains xs y → x <ℤ y) × IsAscending xs
 
--- the set with v put in: before the first greater member, and not a second time
+-- the set with v inserted before the first greater member, unless it contains v
 abbrev pub put_in : ℤ → List ℤ → List ℤ
 put_in v [] = v ∷ []
 put_in v (x ∷ xs) =

@@ -1,20 +1,20 @@
--- Invariant: a set of integers as spans of consecutive ones
+-- Invariant: a set of integers as spans of consecutive members
 use Rattle.std.specs.Prelude.{◌≡◌, ℕ, zero, suc, ℤ, pos, negsuc, ◌+ℤ◌, ◌-ℤ◌, ◌<ℤ◌, ◌≤ℤ◌, unsigned_abs, List, [], ◌∷◌, refl}
 use Rattle.std.proofs.Common.{lit<}
 use Rattle.std.specs.List.{Contains, flat_map}
 use Rattle.values.specs.declared.span_row.Span.{Span}
 use Rattle.values.specs.Sums.{sum_of}
 
--- n integers in turn from this one on
+-- n consecutive integers from x on
 abbrev pub in_turn : ℤ → ℕ → List ℤ
 in_turn x zero = []
 in_turn x (suc n) = x ∷ in_turn (x +ℤ pos 1) n
 
--- how many integers there are from a to b
+-- the number of integers from a to b
 abbrev pub many : ℤ → ℤ → ℕ
 many a b = unsigned_abs ((b -ℤ a) +ℤ pos 1)
 
--- the integers from a to b, in turn
+-- the integers from a to b
 abbrev pub from_to : ℤ → ℤ → List ℤ
 from_to a b = in_turn a (many a b)
 
@@ -22,11 +22,11 @@ from_to a b = in_turn a (many a b)
 abbrev pub integers_in : List Span → List ℤ
 integers_in spans = flat_map (λ (span : Span). from_to span.from span.to) spans
 
--- each of these spans ends before x, and an integer is missing between
+-- each of these spans ends before x, with an integer missing between them
 abbrev pub EndBefore : List Span → ℤ → Type 0
 EndBefore spans x = (span : Span) → Contains spans span → (span.to +ℤ pos 1) <ℤ x
 
--- each of these spans starts behind x, and an integer is missing between
+-- each of these spans starts after x, with an integer missing between them
 abbrev pub StartBehind : List Span → ℤ → Type 0
 StartBehind spans x = (span : Span) → Contains spans span → (x +ℤ pos 1) <ℤ span.from
 
@@ -40,8 +40,8 @@ pub record AreSpans (spans : List Span) (sum : ℕ) : Type 0 where
   pub apart : StandApart spans
   pub sums : sum ≡ sum_of (integers_in spans)
 
--- worked: from -2 to 1 there are four integers; the set of 3, 4, 5 and 9 has two spans; and two spans with nothing missing
--- between, as 3 and 4 to 5 are, do not stand apart
+-- examples: from -2 to 1 there are four integers; the set of 3, 4, 5 and 9 has two spans; two spans without a missing integer between them,
+-- such as 3 and 4 to 5, do not stand apart
 worked_turn : from_to (negsuc 1) (pos 1) ≡ negsuc 1 ∷ negsuc 0 ∷ pos 0 ∷ pos 1 ∷ []
 worked_turn = refl
 

@@ -3,7 +3,7 @@ ghost use Rattle.std.specs.Prelude.{◌≡◌, IfOk};
 
 use std::alloc::{AllocError, Global};
 
-/// A copy of the integers, with room for one more.
+/// Returns a copy of the integers, with room for one more.
 pub(crate) fn copy_with_room(alloc: Global, values: &[i64]) -> Result<Vec<i64>, AllocError>
     ensures items { IfOk result (λ copy. copy.items ≡ values.now) }
 {

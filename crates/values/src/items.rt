@@ -11,13 +11,13 @@ use std::alloc::{AllocError, Global};
 use std::hash::{Hash, Hasher};
 use std::marker::Model;
 
-// The ratio of the weight of a place to the weight of the place behind it, and its inverse, both modulo 2^128.
+// The ratio of the weight of an item to the weight of the next item, modulo 2^128. `BACK` is its inverse.
 const RATIO: u128 = 47026247687942121848144207491837523525;
 
 const BACK: u128 = 10455382779074951524300553632856583309;
 
-/// Integers, the front first. Two queues share their common parts. The sum of the items, each weighed by its place, is kept too, so that
-/// the hash takes constant time; and the weight of the place before the front.
+/// The integers in a queue, first item first. Two queues share their common parts. The queue also stores the sum of its items, each weighed
+/// by its place, so that a hash takes constant time. It also stores the weight that an item before the first one would have.
 pub struct Items {
     alloc: Global,
     items: Row<i64>,
@@ -36,7 +36,7 @@ impl Model for Items {
     ghost invariant = { λ a. AreRolled a.items a.sum a.weight };
 }
 
-// So that crates above give one back by one call.
+// With this implementation, a crate above drops a queue by one call.
 impl Drop for Items {
     #[inline(always)]
     fn drop(self) {
@@ -49,28 +49,28 @@ impl Drop for Items {
     }
 }
 
-// The sum of the items with one more behind them, from the sum of the items.
+// Returns the sum after `value` is added at the end of the items, if `sum` is the sum of the items.
 fn sum_with(sum: u128, value: i64) -> u128
     ensures { (values : List ℤ) → sum ≡ rolled values → result ≡ rolled (values ++ value ∷ []) }
 {
     sum.wrapping_mul(RATIO).wrapping_add(mixed(value))
 }
 
-// The weight of one place more.
+// Returns the weight for one more place.
 fn weight_with(weight: u128) -> u128
     ensures { (many : ℕ) → weight ≡ power many → result ≡ power (many + 1) }
 {
     weight.wrapping_mul(RATIO)
 }
 
-// The weight of one place less.
+// Returns the weight for one place less.
 fn weight_without(weight: u128) -> u128
     ensures { (many : ℕ) → weight ≡ power (many + 1) → result ≡ power many }
 {
     weight.wrapping_mul(BACK)
 }
 
-// The sum of the items without the front one, from the sum of all and the weight of the front's place.
+// Returns the sum after the first item is removed. `sum` is the sum of all items, and `weight` is the weight of the first one, `front`.
 fn sum_without_front(sum: u128, weight: u128, front: i64) -> u128
     ensures { (values : List ℤ) → sum ≡ rolled (front ∷ values) → weight ≡ power (length values)
         → result ≡ rolled values }
@@ -79,7 +79,7 @@ fn sum_without_front(sum: u128, weight: u128, front: i64) -> u128
 }
 
 impl Items {
-    /// No items.
+    /// Returns an empty queue.
     pub fn new(alloc: Global) -> Items
         ensures { result ≡ [] }
     {
@@ -91,14 +91,14 @@ impl Items {
         }
     }
 
-    /// The number of items. Takes constant time.
+    /// Returns the number of items. Takes constant time.
     pub fn len(&self) -> usize
         ensures { result ≡ length self.now }
     {
         self.items.len()
     }
 
-    /// The front one. Takes constant time.
+    /// Returns the first item. Takes constant time.
     pub fn front(&self) -> i64
         requires { 0 < length self.now }
         ensures { result ≡ get_or self.now 0 (pos 0) }
@@ -106,8 +106,8 @@ impl Items {
         self.items.first()
     }
 
-    /// A queue of the same items. Costs time and memory in O(items) up to 128 items, and else constant time and no memory. `AllocError` if
-    /// there is no memory, or if as many queues share the items as can be counted.
+    /// Returns a queue of the same items. Up to 128 items it costs O(items) time and memory, and above that constant time and no memory.
+    /// `AllocError` if an allocation fails, or if the number of queues that share the items cannot grow any more.
     pub fn copy(&self) -> Result<Items, AllocError>
         ensures { IfOk result (λ other. other ≡ self.now) }
     {
@@ -119,7 +119,7 @@ impl Items {
         })
     }
 
-    /// The items with one more behind them. Costs time and memory in O(items) up to 128 items, and else in O(log n).
+    /// Returns the items with `value` added at the end. Costs O(items) time and memory up to 128 items, and O(log n) above that.
     pub fn with(&self, value: i64) -> Result<Items, AllocError>
         ensures { IfOk result (λ more. more ≡ self.now ++ value ∷ []) }
     {
@@ -132,7 +132,7 @@ impl Items {
         })
     }
 
-    /// The items without the front one. Costs time and memory in O(items) up to 128 items, and else in O(log n).
+    /// Returns the items without the first one. Costs O(items) time and memory up to 128 items, and O(log n) above that.
     pub fn without_front(&self) -> Result<Items, AllocError>
         requires { 0 < length self.now }
         ensures { IfOk result (λ rest. rest ≡ drop 1 self.now) }

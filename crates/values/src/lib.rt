@@ -1,11 +1,11 @@
-//! Integers as states of objects: the members of a set, in a list or as spans; the items of a queue; the values of a queue without an
-//! order. A copy of up to 128 values copies them, and a copy of more shares them.
+//! Integers as states of objects. There are the members of a set, as a list or as spans, the items of a queue, and the values of an
+//! unordered queue. Up to 128 values are copied, and a copy of more values shares them.
 //!
-//! The sum of the values is kept with them, and is the hashed number. Each value is mixed to 128 bits and added. The items of a queue are
-//! weighed by powers of a fixed odd number, by their places. So one value more or less changes the sum in a few steps. Values whose sums
-//! differ are different. If the sums are equal the values are compared one by one, so no answer depends on the mixing.
+//! Each collection stores a sum of its values, which is hashed. Each value is mixed to 128 bits and added. The items of a queue are weighed
+//! by powers of a fixed odd number, according to their places. So an insertion or a removal updates the sum in a few steps. Collections
+//! with different sums are different. If the sums are equal, the values are compared one by one, so no answer depends on the mixing.
 //!
-//! A call takes memory only if its result can be `AllocError`.
+//! A call allocates only if its result can be `AllocError`.
 #![tactic(auto)]
 
 mod copies;

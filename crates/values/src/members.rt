@@ -15,8 +15,8 @@ use std::hash::{Hash, Hasher};
 use std::marker::Model;
 use std::sync::Arc;
 
-/// A set of integers, ascending, as the result of a read and as an answer. The state of a set is [`Spans`](crate::Spans). A copy shares
-/// the members, which never change.
+/// A set of integers in ascending order, as the result of a read and as an answer. The state of a set is [`Spans`](crate::Spans) instead.
+/// Copies share the members, which never change.
 pub struct Members {
     alloc: Global,
     listed: Option<Arc<Listed>>,
@@ -28,7 +28,7 @@ impl Model for Members {
     ghost view = { λ a. members_in a.listed };
 }
 
-// So that crates above give one back by one call.
+// With this implementation, a crate above drops a set by one call.
 impl Drop for Members {
     #[inline(always)]
     fn drop(self) {
@@ -39,7 +39,7 @@ impl Drop for Members {
     }
 }
 
-// Integers, ascending, with their sum, which differs for most other sets.
+// Ascending integers, with a sum that is different for most sets.
 #[derive(Drop)]
 struct Listed {
     items: Vec<i64>,
@@ -55,7 +55,7 @@ impl Model for Listed {
 }
 
 impl Listed {
-    // These integers, which ascend.
+    // Returns the list of these ascending integers.
     fn of(items: Vec<i64>) -> Listed
         requires { IsAscending items.items }
         ensures { result ≡ items.items }
@@ -65,9 +65,9 @@ impl Listed {
     }
 }
 
-// The summand of a value in the sum of its set, its multiset or its queue. It is spread over 128 bits, so that few lists have the same
-// sum, also if somebody has chosen the values for that. Its lower half is the value itself, mixed by steps that can be undone. So
-// different values have different lower halves, and at each place of a queue the weighed summands of different values differ too.
+// Returns the summand of `value` in the sum of its set, multiset or queue. The summand is spread over 128 bits, so few lists have the same
+// sum, even if somebody chooses the values for that. Its lower half is the value after mixing steps that can be undone. So different values
+// have different lower halves. Their weighed summands differ at each place of a queue too.
 pub(crate) fn mixed(value: i64) -> u128
     ensures { result ≡ mixed value }
 {
@@ -82,7 +82,7 @@ pub(crate) fn mixed(value: i64) -> u128
         .wrapping_add(turned as u128)
 }
 
-// The sum of the values' summands, up to a multiple of 2^128.
+// Returns the sum of the values' summands, modulo 2^128.
 fn sum_of(values: &[i64]) -> u128
     ensures { result ≡ sum_of values.now }
 {
@@ -94,7 +94,7 @@ fn sum_of(values: &[i64]) -> u128
 }
 
 impl Members {
-    /// The empty set.
+    /// Returns the empty set.
     pub fn new(alloc: Global) -> Members
         ensures { result ≡ [] }
     {
@@ -104,7 +104,7 @@ impl Members {
         }
     }
 
-    // The set of these values; `AllocError` if there is no memory to share it.
+    // Returns the set of the listed values; `AllocError` if an allocation fails.
     fn sharing(alloc: Global, listed: Listed) -> Result<Members, AllocError>
         ensures { IfOk result (λ set. set ≡ listed) }
     {
@@ -115,7 +115,7 @@ impl Members {
         })
     }
 
-    /// The set of values that ascend, none twice; `AllocError` if there is no memory to share them. Costs O(values).
+    /// Returns the set of strictly ascending values; `AllocError` if an allocation fails. Costs O(values).
     pub fn of_ascending(values: Vec<i64>) -> Result<Members, AllocError>
         requires { IsAscending values.items }
         ensures { IfOk result (λ set. set ≡ values.items) }
@@ -123,7 +123,7 @@ impl Members {
         Members::sharing(*values.allocator(), Listed::of(values))
     }
 
-    /// The same, if the caller knows the sum of the values. Takes constant time.
+    /// Returns the set of strictly ascending values whose sum is `sum`; `AllocError` if an allocation fails. Takes constant time.
     pub(crate) fn of_listed(values: Vec<i64>, sum: u128) -> Result<Members, AllocError>
         requires { IsListed values.items sum }
         ensures { IfOk result (λ set. set ≡ values.items) }
@@ -131,8 +131,8 @@ impl Members {
         Members::sharing(*values.allocator(), Listed { items: values, sum })
     }
 
-    /// The set of values in any order, with or without repetitions; `AllocError` if there is no memory to share them. Costs a sort:
-    /// O(n log n).
+    /// Returns the set of the values, which may be in any order and may be repeated; `AllocError` if an allocation fails. Costs O(n log n)
+    /// for a sort.
     pub fn of_unordered(values: Vec<i64>) -> Result<Members, AllocError>
         ensures members { IfOk result (λ set. (v : ℤ) → Contains set v ↔ Contains values.items v) }
         ensures ascending { IfOk result IsAscending }
@@ -143,7 +143,7 @@ impl Members {
         Members::of_ascending(items)
     }
 
-    /// The members, ascending. Takes constant time.
+    /// Returns the members in ascending order. Takes constant time.
     pub fn as_slice(&self) -> &[i64]
         ensures value { result.now ≡ self.now }
         ensures ascending { IsAscending self.now }
@@ -154,7 +154,7 @@ impl Members {
         }
     }
 
-    // The sum of the members' summands.
+    // Returns the sum of the members' summands.
     fn sum(&self) -> u128
         ensures { result ≡ sum_of self.now }
     {
@@ -164,8 +164,8 @@ impl Members {
         }
     }
 
-    /// The same set, which shares its members with this one. Takes constant time, and no memory; `AllocError` if as many
-    /// share them as can be counted.
+    /// Returns the same set, which shares its members with this one. Takes constant time, and does not allocate. `AllocError` if the number
+    /// of sets that share the members cannot grow any more.
     pub fn copy(&self) -> Result<Members, AllocError>
         ensures { IfOk result (λ other. other ≡ self.now) }
     {
@@ -178,14 +178,14 @@ impl Members {
         }
     }
 
-    /// Whether both have the same members. Takes constant time if their numbers or their sums differ.
+    /// Returns whether both sets have the same members. Takes constant time if the numbers of members or the sums differ.
     pub fn same(&self, other: &Members) -> bool
         ensures { IsTrue result ↔ (self.now ≡ other.now) }
     {
         self == other
     }
 
-    /// The set with the value put in. Costs O(members).
+    /// Returns the set with `value` inserted. Costs O(members).
     pub fn with(&self, value: i64) -> Result<Members, AllocError>
         ensures { IfOk result (λ more. more ≡ put_in value self.now) }
     {

@@ -1,4 +1,4 @@
-//! Multisets of integers that share what they have in common.
+//! Multisets of integers. Multisets that were made from one another share memory.
 ghost use Rattle.std.specs.Prelude.{◌≡◌, ◌≢◌, ◌+◌, ◌≤◌, ◌<◌, ℕ, ℤ, [], IfOk, pos, get_or, length, remove, take};
 ghost use Rattle.std.specs.Ordering.{int_eq};
 ghost use Rattle.std.specs.Cmp.Lexicographic.{pointwise};
@@ -11,8 +11,8 @@ use std::alloc::{AllocError, Global};
 use std::hash::{Hash, Hasher};
 use std::marker::Model;
 
-/// A multiset of integers: its values ascending, each as often as it is in. Two multisets share their common parts if one was made from
-/// the other. The sum of the values is kept too, so that the hash takes constant time.
+/// A multiset of integers. Its values ascend, and a value that is contained several times is repeated. Two multisets share their common
+/// parts if one was made from the other. The multiset also stores the sum of its values, so that a hash takes constant time.
 pub struct Multiset {
     alloc: Global,
     values: Row<i64>,
@@ -30,7 +30,7 @@ impl Model for Multiset {
     ghost invariant = { λ a. AreCounted a.values a.sum };
 }
 
-// So that crates above give one back by one call.
+// With this implementation, a crate above drops a multiset by one call.
 impl Drop for Multiset {
     #[inline(always)]
     fn drop(self) {
@@ -43,7 +43,7 @@ impl Drop for Multiset {
 }
 
 impl Multiset {
-    /// Without values.
+    /// Returns an empty multiset.
     pub fn new(alloc: Global) -> Multiset
         ensures { result ≡ [] }
     {
@@ -54,7 +54,7 @@ impl Multiset {
         }
     }
 
-    /// The number of values, each counted as often as it is in. Takes constant time.
+    /// Returns the number of values, repetitions included. Takes constant time.
     pub fn len(&self) -> usize
         ensures is { result ≡ length self.now }
         ensures never_falls { NeverFalls self.now }
@@ -62,7 +62,7 @@ impl Multiset {
         self.values.len()
     }
 
-    /// The value at place `at`, in ascending order. Costs O(log n).
+    /// Returns the value at index `at` in ascending order. Costs O(log n).
     pub fn get(&self, at: usize) -> i64
         requires { at < length self.now }
         ensures value { result ≡ get_or self.now at (pos 0) }
@@ -71,7 +71,7 @@ impl Multiset {
         self.values.get(at)
     }
 
-    /// The place behind the last value that equals the one at place `at`. Costs O(log n).
+    /// Returns the index after the last value that equals the value at index `at`. Costs O(log n).
     pub fn past(&self, at: usize) -> usize
         requires { at < length self.now }
         ensures later { at < result }
@@ -87,7 +87,8 @@ impl Multiset {
         self.past_equals(at)
     }
 
-    // The same, by the greatest value, and by the place of the next greater one.
+    // Returns the index after the last value that equals the value at index `at`. Compares the value with the last one first, and then
+    // searches for the next integer.
     fn past_equals(&self, at: usize) -> usize
         requires { at < length self.now }
         ensures later { at < result }
@@ -104,8 +105,8 @@ impl Multiset {
         self.values.place_of(value + 1)
     }
 
-    /// An equal multiset. Costs time and memory in O(values) up to 128 values, and else constant time and no memory. `AllocError` if there is
-    /// no memory, or if as many multisets share the values as can be counted.
+    /// Returns an equal multiset. Up to 128 values it costs O(values) time and memory, and above that constant time and no memory.
+    /// `AllocError` if an allocation fails, or if the number of multisets that share the values cannot grow any more.
     pub fn copy(&self) -> Result<Multiset, AllocError>
         ensures { IfOk result (λ other. other ≡ self.now) }
     {
@@ -116,7 +117,7 @@ impl Multiset {
         })
     }
 
-    /// The multiset with one more of the value. Costs time and memory in O(values) up to 128 values, and else in O(log n).
+    /// Returns the multiset with `value` added once. Costs O(values) time and memory up to 128 values, and O(log n) above that.
     pub fn with(&self, value: i64) -> Result<Multiset, AllocError>
         ensures { IfOk result (λ more. more ≡ with_one value self.now) }
     {
@@ -129,7 +130,7 @@ impl Multiset {
         })
     }
 
-    /// The multiset without the value at place `at`. Costs time and memory in O(values) up to 128 values, and else in O(log n).
+    /// Returns the multiset without the value at index `at`. Costs O(values) time and memory up to 128 values, and O(log n) above that.
     pub fn without(&self, at: usize) -> Result<Multiset, AllocError>
         requires { at < length self.now }
         ensures { IfOk result (λ rest. rest ≡ remove self.now at) }

@@ -1,4 +1,4 @@
-//! Spans of consecutive integers in a row that shares its parts with other rows.
+//! Spans of consecutive integers, in a row that shares its parts with other rows.
 ghost use Rattle.std.specs.Prelude.{◌≡◌, ◌↔◌, ◌+◌, ◌≤◌, ◌<◌, ◌<ℤ◌, ◌≤ℤ◌, IsTrue, IfOk, [], ◌∷◌, ◌++◌, drop, get_or, length, take};
 ghost use Rattle.std.specs.List.{Contains};
 ghost use Rattle.values.specs.declared.span_row.Span.{Span};
@@ -8,14 +8,14 @@ use persistent::{Placed, Row};
 use std::alloc::{AllocError, Global};
 use std::marker::Model;
 
-/// Consecutive integers, by the first and the last.
+/// Consecutive integers, given by the first and the last one.
 #[derive(Clone, Copy, Drop)]
 pub struct Span {
     pub from: i64,
     pub to: i64,
 }
 
-/// A span's place is its last integer.
+/// The place of a span is its last integer.
 impl Placed for Span {
     ghost place = { λ span. span.to };
 
@@ -28,7 +28,7 @@ impl Placed for Span {
     }
 }
 
-/// Spans, one behind the other, in a row that shares its parts with other rows.
+/// Spans in a row that shares its parts with other rows.
 #[derive(Drop)]
 pub struct SpanRow {
     spans: Row<Span>,
@@ -44,21 +44,21 @@ impl Model for SpanRow {
 }
 
 impl SpanRow {
-    /// No spans.
+    /// Returns an empty row.
     pub fn new() -> SpanRow
         ensures { result ≡ [] }
     {
         SpanRow { spans: Row::new() }
     }
 
-    /// The number of spans. Takes constant time.
+    /// Returns the number of spans. Takes constant time.
     pub fn len(&self) -> usize
         ensures { result ≡ length self.now }
     {
         self.spans.len()
     }
 
-    /// The first integer of the span at place `at`. Costs O(log n).
+    /// Returns the first integer of the span at index `at`. Costs O(log n).
     pub fn first_at(&self, at: usize) -> i64
         requires { at < length self.now }
         ensures { (d : Span) → result ≡ (get_or self.now at d).from }
@@ -66,7 +66,7 @@ impl SpanRow {
         self.spans.get(at).from
     }
 
-    /// The last integer of the span at place `at`. Costs O(log n).
+    /// Returns the last integer of the span at index `at`. Costs O(log n).
     pub fn last_at(&self, at: usize) -> i64
         requires { at < length self.now }
         ensures { (d : Span) → result ≡ (get_or self.now at d).to }
@@ -74,7 +74,7 @@ impl SpanRow {
         self.spans.get(at).to
     }
 
-    /// The spans from place `at` on that are stored in one piece of memory. Costs O(log n).
+    /// Returns the spans from index `at` on that are stored contiguously. Costs O(log n).
     pub fn part_at(&self, at: usize) -> &[Span]
         requires { at < length self.now }
         ensures some { 0 < length result.now }
@@ -84,7 +84,7 @@ impl SpanRow {
         self.spans.part_at(at)
     }
 
-    /// The number of spans that end before the value. Costs O(log n).
+    /// Returns the number of spans that end before `value`. Costs O(log n).
     pub fn place_of(&self, value: i64) -> usize
         requires { StandApart self.now }
         ensures within { result ≤ length self.now }
@@ -94,8 +94,8 @@ impl SpanRow {
         self.spans.place_of(value)
     }
 
-    /// A row of the same spans. Costs time and memory in O(spans) up to 128 spans, and else constant time and no memory. `AllocError` if there
-    /// is no memory, or if as many rows share the spans as can be counted.
+    /// Returns a row of the same spans. Up to 128 spans it costs O(spans) time and memory, and above that constant time and no memory.
+    /// `AllocError` if an allocation fails, or if the number of rows that share the spans cannot grow any more.
     pub fn copy(&self) -> Result<SpanRow, AllocError>
         ensures { IfOk result (λ row. row ≡ self.now) }
     {
@@ -103,7 +103,8 @@ impl SpanRow {
         Ok(SpanRow { spans })
     }
 
-    /// Replaces the spans in from..to (at most two) by one. Costs time and memory in O(spans) up to 128 spans, and else in O(log n).
+    /// Returns the row with the spans in `from..to` (at most two) replaced by `span`. Costs O(spans) time and memory up to 128 spans, and
+    /// O(log n) above that.
     pub fn spliced(
         &self,
         alloc: Global,
@@ -120,7 +121,7 @@ impl SpanRow {
         Ok(SpanRow { spans })
     }
 
-    /// Whether both have the same spans in the same order.
+    /// Returns whether both rows have the same spans in the same order.
     pub fn same(&self, other: &SpanRow) -> bool
         ensures { IsTrue result ↔ (self.now ≡ other.now) }
     {

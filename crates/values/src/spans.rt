@@ -1,4 +1,4 @@
-//! Sets of integers as spans of consecutive ones.
+//! Sets of integers, stored as spans of consecutive members.
 ghost use Rattle.std.specs.Hash as fed;
 ghost use Rattle.std.specs.Prelude.{◌≡◌, ◌+◌, ◌≤◌, ◌<◌, ◌<ℤ◌, ◌≤ℤ◌, ◌+ℤ◌, ◌-ℤ◌, pos, true, false, IfOk, OnOk, [], ◌++◌, List, ℤ, drop, get_or, length, min, take};
 ghost use Rattle.std.specs.List.{Contains};
@@ -15,8 +15,9 @@ use std::alloc::{AllocError, Global};
 use std::hash::{Hash, Hasher};
 use std::marker::Model;
 
-/// A set of integers, by its spans in ascending order. A span has as many consecutive members as there are, so each set has one row of
-/// spans, and comparing two sets costs O(spans), not O(members). Two sets share their common parts if one was made from the other.
+/// A set of integers, stored as spans in ascending order. Between two spans at least one integer is missing. So each set has exactly one
+/// row of spans, and a comparison of two sets costs O(spans), not O(members). Two sets share their common parts if one was made from the
+/// other.
 pub struct Spans {
     alloc: Global,
     spans: SpanRow,
@@ -34,7 +35,7 @@ impl Model for Spans {
     ghost invariant = { λ a. AreSpans a.spans a.sum };
 }
 
-// So that crates above give one back by one call.
+// With this implementation, a crate above drops a set by one call.
 impl Drop for Spans {
     #[inline(always)]
     fn drop(self) {
@@ -46,7 +47,7 @@ impl Drop for Spans {
     }
 }
 
-// Whether there is a span at this place, and it starts at the value or before.
+// Returns whether there is a span at index `at` that starts at or before `value`.
 fn starts_by(spans: &SpanRow, at: usize, value: i64) -> bool
     ensures starts { result ≡ true → (d : Span)
         → (at < length spans.now) × ((get_or spans.now at d).from ≤ℤ value) }
@@ -56,8 +57,9 @@ fn starts_by(spans: &SpanRow, at: usize, value: i64) -> bool
     at < spans.len() && spans.first_at(at) <= value
 }
 
-// The begin of the span that gets a value, which is put in behind the first `at` spans: the number of spans that stay before it, and its
-// first integer. The last of the `at` spans is joined with it, unless an integer is missing between both.
+// Returns the beginning of the span that `value` becomes part of. `value` is inserted after the first `at` spans. Returns the number of
+// spans that stay before the new span, and its first integer. The last of the `at` spans is merged into it, unless an integer is missing
+// between both.
 fn start_of(spans: &SpanRow, at: usize, value: i64) -> (usize, i64)
     requires apart { StandApart (take at spans.now) }
     requires place { at ≤ length spans.now }
@@ -78,8 +80,9 @@ fn start_of(spans: &SpanRow, at: usize, value: i64) -> (usize, i64)
     (at, value)
 }
 
-// The end of the span that gets a value, which is put in before the span at place `at`. Returns the place of the first span that stays behind
-// it, and its last integer. The span at place `at` is joined with it, unless an integer is missing between both.
+// Returns the end of the span that `value` becomes part of. `value` is inserted before the span at index `at`. Returns the index of the
+// first span that stays after the new span, and its last integer. The span at index `at` is merged into it, unless an integer is missing
+// between both.
 fn end_of(spans: &SpanRow, at: usize, value: i64) -> (usize, i64)
     requires apart { StandApart (drop at spans.now) }
     requires place { at ≤ length spans.now }
@@ -101,7 +104,7 @@ fn end_of(spans: &SpanRow, at: usize, value: i64) -> (usize, i64)
     (at, value)
 }
 
-// The number of integers in these spans, or `usize::MAX` if there are more.
+// Returns the number of integers in `spans`, or `usize::MAX` if there are more.
 fn room_of(spans: &[Span]) -> usize
     requires { StandApart spans.now }
     ensures { result ≡ min (length (integers_in spans.now)) usize.MAX }
@@ -115,7 +118,7 @@ fn room_of(spans: &[Span]) -> usize
     room
 }
 
-// The number of integers in the whole row of spans, or `usize::MAX` if there are more.
+// Returns the number of integers in the whole row of spans, or `usize::MAX` if there are more.
 fn room_for(spans: &SpanRow) -> usize
     requires { StandApart spans.now }
     ensures { result ≡ min (length (integers_in spans.now)) usize.MAX }
@@ -131,7 +134,7 @@ fn room_for(spans: &SpanRow) -> usize
     room
 }
 
-// Puts the integers from the first to the last behind the others.
+// Appends the integers `from` to `to`, both inclusive, to `items`.
 fn append_integers(items: &mut Vec<i64>, from: i64, to: i64) -> Result<(), AllocError>
     requires { from ≤ℤ to }
     ensures { OnOk result (items.new.items ≡ items.old.items ++ from_to from to) }
@@ -146,7 +149,7 @@ fn append_integers(items: &mut Vec<i64>, from: i64, to: i64) -> Result<(), Alloc
     }
 }
 
-// Puts the integers of these spans behind the others.
+// Appends the integers in `spans` to `items`.
 fn append_spans(items: &mut Vec<i64>, spans: &[Span]) -> Result<(), AllocError>
     requires { StandApart spans.now }
     ensures { OnOk result (items.new.items ≡ items.old.items ++ integers_in spans.now) }
@@ -158,7 +161,7 @@ fn append_spans(items: &mut Vec<i64>, spans: &[Span]) -> Result<(), AllocError>
 }
 
 impl Spans {
-    /// The empty set.
+    /// Returns the empty set.
     pub fn new(alloc: Global) -> Spans
         ensures { result ≡ [] }
     {
@@ -169,8 +172,8 @@ impl Spans {
         }
     }
 
-    /// An equal set. Costs time and memory in O(spans) up to 128 spans, and else constant time and no memory. `AllocError` if there is no
-    /// memory, or if as many sets share the spans as can be counted.
+    /// Returns an equal set. Up to 128 spans it costs O(spans) time and memory, and above that constant time and no memory. `AllocError` if
+    /// an allocation fails, or if the number of sets that share the spans cannot grow any more.
     pub fn copy(&self) -> Result<Spans, AllocError>
         ensures { IfOk result (λ other. other ≡ self.now) }
     {
@@ -181,8 +184,8 @@ impl Spans {
         })
     }
 
-    /// The set with the value put in. Costs time and memory in O(spans) up to 128 spans, and else in O(log n). It takes no memory if the
-    /// value is in already and there are more than 128 spans.
+    /// Returns the set with `value` inserted. Costs O(spans) time and memory up to 128 spans, and O(log n) above that. Does not allocate if
+    /// the set has more than 128 spans and contains the value already.
     pub fn with(&self, value: i64) -> Result<Spans, AllocError>
         ensures { IfOk result (λ more. more ≡ put_in value self.now) }
     {
@@ -202,7 +205,7 @@ impl Spans {
         })
     }
 
-    /// The set by its members. Costs O(members).
+    /// Returns the set as a list of its members. Costs O(members).
     pub fn to_members(&self) -> Result<Members, AllocError>
         ensures { IfOk result (λ members. members ≡ self.now) }
     {

@@ -17,13 +17,13 @@ write_by kind = record {
   body = Op (record { name = Write; key = 7; part = Int (pos 1) });
 }
 
--- n writes, each of which returns, from this one on
+-- n writes, numbered from i, each of which returns
 abbrev pub writes_from : ℕ → ℕ → List (ℕ × Event)
 writes_from i zero = []
 writes_from i (suc k) =
     (2 * i, write_by Invoke) ∷ (2 * i + 1, write_by Ok) ∷ writes_from (i + 1) k
 
--- the events alone
+-- the events without their indices
 abbrev pub writes : ℕ → List Event
 writes zero = []
 writes (suc k) = write_by Invoke ∷ write_by Ok ∷ writes k

@@ -5,7 +5,7 @@ use std::sync::atomic::{AtomicBool, AtomicU64, Ordering};
 use std::thread;
 use waiting::{TURNS, comes};
 
-/// The state of a piece: it was begun; it saw the other piece begin, if it waits for that; it was ended.
+/// The state of a piece: whether it has begun; whether it saw the other piece begin, if it waits for that; whether it has ended.
 #[derive(Drop)]
 struct Piece {
     waits: bool,
@@ -35,13 +35,13 @@ impl Piece {
         self.ended.store(true, Ordering::SeqCst);
     }
 
-    // Whether it saw the other piece begin, if it waits for that, and has ended.
+    // Returns whether the piece has ended, and saw the other piece begin if it waits for that.
     fn was_held(&self) -> bool {
         (!self.waits || self.saw.load(Ordering::SeqCst)) && self.ended.load(Ordering::SeqCst)
     }
 }
 
-/// Piece 0 waits for piece 1, and piece 1 for piece 0 if both wait. Each other one passes.
+/// A gate in which piece 0 waits for piece 1, and piece 1 for piece 0 if both wait. Other pieces pass.
 #[derive(Drop)]
 pub struct Meeting {
     first: Piece,
@@ -63,7 +63,7 @@ impl Meeting {
         }
     }
 
-    /// Whether each that waits saw the other piece begin, and both have ended.
+    /// Returns whether both pieces have ended. Each piece that waits must have seen the other piece begin.
     pub fn was_held(&self) -> bool {
         self.first.was_held() && self.second.was_held()
     }
@@ -87,7 +87,7 @@ impl Gate for Meeting {
     }
 }
 
-/// Each of these pieces waits until all of them have begun. It counts how many begin and end, and adds up their places.
+/// A gate in which each piece waits until all pieces have begun. It counts how many begin and end, and adds up their places.
 #[derive(Drop)]
 pub struct Gathering {
     pieces: u64,
@@ -95,7 +95,7 @@ pub struct Gathering {
     begun_places: AtomicU64,
     ended: AtomicU64,
     ended_places: AtomicU64,
-    // A piece waited for too long.
+    // Whether a piece waited for too long.
     missed: AtomicBool,
 }
 
@@ -111,7 +111,7 @@ impl Gathering {
         }
     }
 
-    // Whether it is so within a number of turns, or was missed before.
+    // Returns whether all pieces begin within a number of turns, or a wait was in vain before.
     fn all_begin(&self) -> bool {
         for _ in 0..TURNS {
             if self.begun.load(Ordering::SeqCst) >= self.pieces
@@ -124,7 +124,7 @@ impl Gathering {
         false
     }
 
-    /// Whether each saw all the others begin, and this number have begun and ended, whose places add up to this.
+    /// Returns whether each piece saw all others begin, and all pieces have begun and ended, with `places` as the sum of their places.
     pub fn was_held(&self, places: u64) -> bool {
         !self.missed.load(Ordering::SeqCst)
             && self.begun.load(Ordering::SeqCst) == self.pieces

@@ -1,4 +1,4 @@
-//! Joins of a few statuses, against verdicts that follow from the definition by hand.
+//! Joins of a few statuses, compared with verdicts that follow by hand from the definition.
 use linspec::KeyStatus::{Alive, Dead, Over};
 use linspec::Verdict::{Illegal, Legal, Unknown};
 use linspec::{KeyStatus, Verdict};
@@ -32,7 +32,8 @@ const ONE_BY_ONE: [(Key, KeyStatus, Verdict); 5] = [
     (5, Dead(9), Illegal { key: 4, index: 8 }),
 ];
 
-// The first of the least Dead, else of the least Over, wherever it stands. And one more status at a time: the joined status goes on.
+// Tests that the join is the first of the least Dead, or else of the least Over, at any place of the list. Also tests the join after each
+// added status.
 #[test]
 fn statuses_are_joined(rt: HostRuntime) {
     for (statuses, verdict) in &JOINS {

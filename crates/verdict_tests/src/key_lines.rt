@@ -1,4 +1,4 @@
-//! Lines of a few events, against statuses that follow from the definitions by hand.
+//! Lines of a few events, compared with statuses that follow by hand from the definitions.
 ghost use Rattle.std.specs.Prelude.{◌≡◌, IfOk};
 ghost use Rattle.verdict_tests.specs.LongLine.{writes, writes_from};
 
@@ -10,8 +10,8 @@ use linspec::KeyStatus;
 use models::{Name, Part};
 use std::alloc::{AllocError, Global};
 
-// A release of a mutex that nobody holds: the effects of its crash, its fail and its ok, each prepared alone; and the status before the
-// commit and after it.
+// Returns five statuses for a release of a mutex that nobody holds. Three follow from its crash, its fail and its ok, each only prepared.
+// Two are those before the commit of the ok and after it.
 fn of_a_release(alloc: Global) -> Result<[KeyStatus; 5], AllocError> {
     let mut line = KeyLine::new(alloc, ModelKind::Mutex, 4096)?;
     line.push(0, &event(0, EventKind::Invoke, Name::Release, Part::Nil))?;
@@ -23,7 +23,7 @@ fn of_a_release(alloc: Global) -> Result<[KeyStatus; 5], AllocError> {
     Ok([crashed, failed, returned, before, line.status()])
 }
 
-// The status of a line of a fault and a write, and how many events it has.
+// Returns the status of a line of a fault and a write, and the number of its events.
 fn behind_a_fault(alloc: Global) -> Result<(KeyStatus, usize), AllocError> {
     let mut line = KeyLine::new(alloc, ModelKind::Register, 4096)?;
     let heal = Event {
@@ -38,7 +38,7 @@ fn behind_a_fault(alloc: Global) -> Result<(KeyStatus, usize), AllocError> {
     Ok((line.status(), line.len()))
 }
 
-// 65 times a write of 1 that returns: 130 events, of indices 0 to 129.
+// Returns the line of 65 writes of 1 that return: 130 events, with the indices 0 to 129.
 fn written(alloc: Global) -> Result<KeyLine, AllocError>
     ensures { IfOk result (λ made. made.now.events ≡ writes_from 0 65) }
 {
@@ -56,7 +56,7 @@ fn written(alloc: Global) -> Result<KeyLine, AllocError>
     Ok(line)
 }
 
-// The events of such a line alone, which are the history that it borrows from.
+// Returns the events of the line of 65 writes, which are the history from which it borrows.
 fn writes_made(alloc: Global) -> Result<Vec<Event>, AllocError>
     ensures { IfOk result (λ made. made.items ≡ writes 65) }
 {
@@ -68,7 +68,7 @@ fn writes_made(alloc: Global) -> Result<Vec<Event>, AllocError>
     Ok(events)
 }
 
-// How many events a cut of such a line judges again, and how many it leaves.
+// Returns how many events a cut of the line of 65 writes judges again, and how many it keeps.
 fn after_cut(alloc: Global, n: u32) -> Result<(u64, usize), AllocError> {
     let borrowed = writes_made(alloc)?;
     let mut line = written(alloc)?;
@@ -77,11 +77,11 @@ fn after_cut(alloc: Global, n: u32) -> Result<(u64, usize), AllocError> {
     Ok((line.replayed().wrapping_sub(before), line.len()))
 }
 
-// A cut judges again only what stays behind the last 64th event.
+// A cut judges only the kept events after the last 64th event again.
 const CUTS: [(u32, u64, usize); 4] = [(130, 0, 130), (129, 1, 129), (127, 63, 127), (64, 0, 64)];
 
-// The status of such a line; and the number of its replays, then of another kind, and then if a cut is prepared, with those that it would
-// add before the last.
+// Returns the status of the line of 65 writes, and four numbers of replays. Two are those after the pushes and after a change of the kind.
+// Two are those that a prepared cut would add, and those before its commit.
 fn replays(alloc: Global) -> Result<(KeyStatus, [u64; 4]), AllocError> {
     let borrowed = writes_made(alloc)?;
     let mut line = written(alloc)?;
@@ -96,7 +96,7 @@ fn replays(alloc: Global) -> Result<(KeyStatus, [u64; 4]), AllocError> {
     ))
 }
 
-// Two events, of indices 3 and 5.
+// Returns a line of two events, with the indices 3 and 5.
 fn three_and_five(alloc: Global) -> Result<KeyLine, AllocError> {
     let mut line = KeyLine::new(alloc, ModelKind::Register, 4096)?;
     line.push(3, &event(0, EventKind::Invoke, Name::Write, Part::Int(1)))?;
@@ -104,7 +104,7 @@ fn three_and_five(alloc: Global) -> Result<KeyLine, AllocError> {
     Ok(line)
 }
 
-// Whether an empty line loses events, and begins below.
+// Returns whether an empty line loses events, and whether it begins below an index.
 fn of_nothing(alloc: Global) -> Result<(bool, bool), AllocError> {
     let line = KeyLine::new(alloc, ModelKind::Register, 4096)?;
     Ok((line.loses(0), line.begins_below(9)))
@@ -115,7 +115,7 @@ fn of_two(alloc: Global, n: u32) -> Result<(bool, bool), AllocError> {
     Ok((line.loses(n), line.begins_below(n)))
 }
 
-// Whether a cut takes events away, and whether there are events before it.
+// For each cut: whether it removes events, and whether there are events before it.
 const OF_TWO: [(u32, (bool, bool)); 5] = [
     (0, (true, false)),
     (3, (true, false)),
@@ -124,7 +124,7 @@ const OF_TWO: [(u32, (bool, bool)); 5] = [
     (6, (false, true)),
 ];
 
-// A mutex that nobody holds is not released, while a release may crash or fail. A prepared change counts once it is committed.
+// A release of a mutex that nobody holds cannot return, but it may crash or fail. A prepared change counts once it is committed.
 const OF_A_RELEASE: [KeyStatus; 5] = [
     KeyStatus::Alive,
     KeyStatus::Alive,
@@ -133,7 +133,7 @@ const OF_A_RELEASE: [KeyStatus; 5] = [
     KeyStatus::Dead(1),
 ];
 
-// Each event that is pushed is one replay, another kind judges each once more, and a cut counts once it is committed.
+// Each pushed event is one replay, a change of the kind judges each event once more, and a cut counts once it is committed.
 const REPLAYS: (KeyStatus, [u64; 4]) = (KeyStatus::Alive, [130, 260, 63, 260]);
 
 #[test]

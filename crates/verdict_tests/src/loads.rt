@@ -12,7 +12,7 @@ use monitor::Monitor;
 use std::alloc::Global;
 use std::thread::Threads;
 
-// Two keys of four threads, which overlap.
+// Returns a history of two keys and four threads, whose operations overlap.
 fn two_keys(alloc: Global) -> Result<History, Refusal> {
     let mut history = History::new(alloc, 4)?;
     for (process, kind, name, key, value) in [
@@ -40,7 +40,7 @@ fn loaded<R: Threads + Sync, G: Gate + Sync>(
     Monitor::load(rt, alloc, history, ModelKind::Register, 4096, 2, gate)
 }
 
-// The verdict, the first key, and how many events the second has, if there are two keys.
+// Returns the verdict, the first key, and the number of events of the second key, if there are two keys.
 fn found(monitor: &Monitor) -> Option<(Verdict, Key, usize)> {
     if monitor.key_count() != 2 {
         return None;
@@ -58,7 +58,7 @@ fn found_by_load<R: Threads + Sync, G: Gate + Sync>(
     Ok(found(&loaded(rt, alloc, gate)?))
 }
 
-/// Each of the two keys is judged by a worker of its own, and they wait for each other.
+/// Tests that each of the two keys is judged by a worker of its own: the workers wait for each other.
 #[test]
 fn load_by_two_workers(rt: HostRuntime) {
     let meeting = Meeting::of_both();

@@ -14,7 +14,7 @@ use parallel_recheck::{KeyEvents, recheck};
 use std::alloc::{AllocError, Global};
 use std::thread::Threads;
 
-// The piece of a key with two events: one has this index, and the second comes two later.
+// Returns the piece of a key with two events, the first at `index`, and the second at `index` + 2.
 fn piece<'a>(
     alloc: Global,
     key: Key,
@@ -31,7 +31,7 @@ fn piece<'a>(
     Ok(events)
 }
 
-// The lines of two pieces. Key 7 is written, and key 9 is read: its answer, at index 3, is a value that nobody has written.
+// Returns the lines of two pieces. Key 7 is written. Key 9 is read, and the answer, at index 3, is a value that was never written.
 fn lines_by<R: Threads + Sync, G: Gate + Sync>(
     rt: &R,
     alloc: Global,
@@ -52,7 +52,7 @@ fn lines_by<R: Threads + Sync, G: Gate + Sync>(
     recheck(rt, alloc, pieces.as_slice(), workers, gate)
 }
 
-// Whether they are the lines of the two pieces, in order.
+// Returns whether the lines are those of the two pieces, in order.
 fn are_lines(lines: &[KeyLine]) -> bool {
     lines.len() == 2
         && matches!(lines[0].status(), KeyStatus::Alive)
@@ -73,7 +73,8 @@ fn are_judged<R: Threads + Sync, G: Gate + Sync>(
     }
 }
 
-/// Two pieces by two workers, which wait for each other. So a recheck by one thread, whatever it is asked for, fails here.
+/// Tests two pieces and two workers, which wait for each other. So the test fails for a recheck by one thread, whatever number of workers
+/// it gets.
 #[test]
 fn workers_meet(rt: HostRuntime) {
     let meeting = Meeting::of_both();
@@ -81,7 +82,7 @@ fn workers_meet(rt: HostRuntime) {
     assert!(rt; meeting.was_held());
 }
 
-/// The first of two pieces waits for the second, by two workers: they overlap.
+/// Tests that two pieces overlap, with two workers: the first one waits for the second.
 #[test]
 fn pieces_overlap(rt: HostRuntime) {
     let meeting = Meeting::of_first();
@@ -89,7 +90,7 @@ fn pieces_overlap(rt: HostRuntime) {
     assert!(rt; meeting.was_held());
 }
 
-/// The lines are the same by one worker, and by more workers than there are pieces.
+/// Tests that the lines are the same for one worker, and for more workers than pieces.
 #[test]
 fn any_number_of_workers(rt: HostRuntime) {
     for workers in [1, 2, 3, 64] {
@@ -97,7 +98,7 @@ fn any_number_of_workers(rt: HostRuntime) {
     }
 }
 
-// How many lines 64 pieces have by 64 workers, each of one write.
+// Returns the number of lines of 64 pieces by 64 workers, each with one write.
 fn lines_of_many<R: Threads + Sync, G: Gate + Sync>(
     rt: &R,
     alloc: Global,
@@ -113,9 +114,9 @@ fn lines_of_many<R: Threads + Sync, G: Gate + Sync>(
     Ok(lines.len())
 }
 
-/// Each of 64 pieces has a worker of its own, which judges it once: all of them have begun before the first is judged. No clause says so. A
-/// worker that judges a piece twice, judges the pieces of another, or calls the gate of another place, meets each clause, and fails here.
-/// Tried by hand: each of the three does.
+/// Tests that each of 64 pieces has a worker of its own, which judges it once. All pieces have begun before the first one is judged. No
+/// clause requires this. Some wrong workers meet each clause, and fail here: one that judges a piece twice, judges the pieces of another
+/// worker, or calls the gate of another place. All three were tried by hand.
 #[test]
 fn each_piece_once(rt: HostRuntime) {
     let gathering = Gathering::of(64);

@@ -1,5 +1,5 @@
-//! How many events a monitor judges again, counted by hand: of each key that loses events those behind its last 64th one that
-//! stays.
+//! The number of events that a monitor judges again, counted by hand. For each key that loses events, it judges the kept events after the
+//! last 64th one.
 
 use edn::Refusal;
 use events::{Body, Event, EventKind, Process};
@@ -8,7 +8,7 @@ use models::{Key, Name, Op, Part};
 use monitor::Monitor;
 use std::alloc::Global;
 
-// An event of a write of 1 to the key, by process 0.
+// Returns an event of a write of 1 to the key, by process 0.
 fn write(key: Key, kind: EventKind) -> Event {
     Event {
         index: None,
@@ -22,7 +22,7 @@ fn write(key: Key, kind: EventKind) -> Event {
     }
 }
 
-// So many writes to the key, each of which returns: two events each.
+// Appends `count` writes to the key that return: two events each.
 fn add_writes(monitor: &mut Monitor, key: Key, count: u32) -> Result<(), Refusal> {
     for _ in 0..count {
         monitor.append(write(key, EventKind::Invoke))?;
@@ -31,7 +31,7 @@ fn add_writes(monitor: &mut Monitor, key: Key, count: u32) -> Result<(), Refusal
     Ok(())
 }
 
-// The monitor of four events of key 1 and, behind them, 130 of key 7.
+// Returns the monitor of four events of key 1, followed by 130 events of key 7.
 fn two_keys(alloc: Global) -> Result<Monitor, Refusal> {
     let mut monitor = Monitor::new(alloc, 1, ModelKind::Register, 4096)?;
     add_writes(&mut monitor, 1, 2)?;
@@ -39,14 +39,14 @@ fn two_keys(alloc: Global) -> Result<Monitor, Refusal> {
     Ok(monitor)
 }
 
-// How many events a rewind to the first `n` judges again.
+// Returns how many events a rewind to the first `n` events judges again.
 fn rewound_to(alloc: Global, n: u32) -> Result<u64, Refusal> {
     let mut monitor = two_keys(alloc)?;
     monitor.rewind(n)?;
     Ok(monitor.judged_again())
 }
 
-// Key 7 keeps n - 4 events, and of these n - 4 modulo 64 are judged again; key 1 loses none unless n is below 4.
+// Key 7 keeps n - 4 events, and of these n - 4 modulo 64 are judged again. Key 1 loses events only if n is below 4.
 const REWINDS: [(u32, u64); 7] = [
     (134, 0),
     (133, 1),
@@ -57,7 +57,8 @@ const REWINDS: [(u32, u64); 7] = [
     (3, 3),
 ];
 
-// The number of events judged again for a rewind and another kind that are prepared and dropped, and for the rewind that follows.
+// Returns the numbers of events that were judged again after a prepared rewind, after a prepared change of the kind, and after another
+// rewind. The prepared changes are dropped.
 fn dropped(alloc: Global) -> Result<(u64, u64, u64), Refusal> {
     let mut monitor = two_keys(alloc)?;
     monitor.prepare_rewind(131)?;
@@ -68,7 +69,7 @@ fn dropped(alloc: Global) -> Result<(u64, u64, u64), Refusal> {
     Ok((first, second, monitor.judged_again()))
 }
 
-// A change that is dropped counts, too: 63 events of key 7, then all four of key 1, then one of key 7.
+// Tests that a dropped change counts too: 63 events of key 7, then all four of key 1, then one of key 7.
 #[test]
 fn rewinds_judge_few_again(rt: HostRuntime) {
     for (n, again) in &REWINDS {

@@ -1,14 +1,14 @@
-//! How a thread of a test waits for another thread. The wait ends after a number of turns, so that a test ends if the other thread never
+//! A wait of a thread in a test for another thread. The wait ends after a number of turns, so the test ends even if the other thread never
 //! comes.
 #![tactic(auto)]
 
 use std::sync::atomic::{AtomicBool, Ordering};
 use std::thread;
 
-/// The turns that a thread waits for another.
+/// The number of turns that a thread waits for another one.
 pub const TURNS: u32 = 1_000_000;
 
-/// Whether another thread sets the flag within `turns` turns.
+/// Returns whether another thread sets the flag within `turns` turns.
 pub fn comes(flag: &AtomicBool, turns: u32) -> bool {
     for _ in 0..turns {
         if flag.load(Ordering::SeqCst) {

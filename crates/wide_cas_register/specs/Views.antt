@@ -1,4 +1,4 @@
--- Promise: a register that is judged, seen as the histories that it stands for
+-- Promise: a register that is judged, seen as its histories
 use Rattle.std.specs.Prelude.{◌≡◌, ◌⊎◌, Bool, true, false, IsTrue, Option, Some, None, []}
 use Rattle.events.specs.declared.event.EventKind.{EventKind}
 use Rattle.events.specs.declared.event.EventKind.TheVariants.{Invoke, Ok, Fail, Info}
@@ -9,14 +9,14 @@ use Rattle.wide_cas_register.specs.declared.judged.WideCasRegister.{WideCasRegis
 use Rattle.wide_cas_register.specs.Facts.{AreFacts}
 use Rattle.judging.specs.Meaning.{FrontierView}
 
--- an ok and a fail can kill
+-- an ok or a fail can be illegal
 abbrev pub kills : EventKind → Bool
 kills Ok = true
 kills Fail = true
 kills Invoke = false
 kills Info = false
 
--- Dead if an event that may leave no row leaves none, else Alive
+-- Dead if no row is left after an ok or a fail, else Alive
 abbrev pub IsStepLeft : Kept → EventKind → Step → Type 0
 IsStepLeft left kind step =
     ((step ≡ Dead) × (left.rows.items ≡ []) × IsTrue (kills kind))

@@ -9,15 +9,15 @@ use models::{Name, Part};
 /// The effect of an operation on a register.
 #[derive(Clone, Copy, Debug, PartialEq, Eq)]
 pub enum What {
-    /// It writes the value.
+    /// The operation writes this value.
     Writes(i64),
-    /// It sets the first value to the second.
+    /// The operation sets the first value to the second.
     Sets(i64, i64),
-    /// It finds the state.
+    /// The operation finds the state.
     Reads,
 }
 
-/// An operation that may still take place: an open one, or a write or a cas that has crashed. It has its id, its effect, the number of
+/// An operation that may still take place: it is open, or it is a write or a cas that has crashed. It has its id, its effect, the number of
 /// marks before its invocation, and whether it is open.
 #[derive(Clone, Copy)]
 pub struct Call {
@@ -27,7 +27,8 @@ pub struct Call {
     pub is_open: bool,
 }
 
-/// The effect of an operation of this name and part on a register; none if a register has no such operation. Takes constant time.
+/// Returns the effect of an operation with this name and part, or `None` if a register with compare and set has no such operation. Takes
+/// constant time.
 pub fn what_of(name: Name, part: &Part) -> Option<What>
     ensures { result ≡ what_by name part.now }
 {
@@ -39,7 +40,7 @@ pub fn what_of(name: Name, part: &Part) -> Option<What>
     }
 }
 
-/// The operation with this id that may still take place, if it is one. Costs O(operations).
+/// Returns the operation `id`, if it may still take place. Costs O(operations).
 pub fn call_of(calls: &[Call], id: u32) -> Option<Call>
     ensures found { IfSome result (λ c. Contains calls.now c × (c.id ≡ id)) }
     ensures none { result ≡ None → (c : Call) → Contains calls.now c → c.id ≢ id }

@@ -1,4 +1,4 @@
-//! The effect of walks on the ends: the fronts, layer upon layer.
+//! The fronts: the ends that walks from the rows reach, in layers. A walk lets writes and cas take place one after another.
 ghost use Rattle.std.specs.Prelude.{◌≡◌, ◌≤◌, ◌↔◌, Option, None, drop, length, IfOk, IfSome, IsTrue, OnOk};
 ghost use Rattle.std.specs.List.{AllZip};
 ghost use Rattle.wide_cas_register.specs.Facts.{CanStep, IsStepBy};
@@ -10,21 +10,21 @@ use crate::left::is_at_most;
 use crate::row::{Row, has_id};
 use std::alloc::{AllocError, Global};
 
-/// An end that a walk made, and whether the walk ends with a write.
+/// An end that a walk has reached, and whether the walk ends with a write.
 #[derive(Drop)]
 pub struct Front {
     pub row: Row,
     pub writes: bool,
 }
 
-// Whether `other` may become every front that `front` may become.
+// Returns whether `other` may become every front that `front` may become. Then `front` is less than `other`.
 fn is_less(calls: &[Call], front: &Front, other: &Front) -> bool
     ensures { IsTrue result ↔ IsLess calls.now front.now other.now }
 {
     (front.writes || !other.writes) && is_at_most(calls, &front.row, &other.row)
 }
 
-// Whether the front is less than one of these.
+// Returns whether the front is less than one of `fronts`.
 fn is_covered(fronts: &[Front], calls: &[Call], front: &Front) -> bool
     ensures { IsTrue result ↔ IsCovered calls.now fronts.now front.now }
 {
@@ -36,15 +36,15 @@ fn is_covered(fronts: &[Front], calls: &[Call], front: &Front) -> bool
     false
 }
 
-// Leaves out those that are less than the front.
+// Removes the fronts that are less than `front`.
 fn leave_out(layer: &mut Vec<Front>, calls: &[Call], front: &Front)
     ensures { AreLeftOut calls.now front.now layer.old.items layer.new.items }
 {
     layer.retain(|other| !is_less(calls, other, front));
 }
 
-/// The front once the operation takes place behind it, if it may: a write that hides no write, or a cas that finds its value. Takes time in
-/// proportion to the operations, each with the values that the front finds.
+/// Returns the front after the operation takes place last, if it may. A write may, if the walk does not end with a write. A cas may, if it
+/// finds its value. Costs O(operations * values that the front finds).
 pub fn step(
     front: &Front,
     calls: &[Call],
@@ -70,8 +70,8 @@ pub fn step(
     }
 }
 
-// Adds the front to the layer, unless it is less than a front that is there or in the layer. Removes the layer's fronts that are less than this
-// one.
+// Adds the front to the layer, unless it is less than a front in `there` or in the layer. Removes the fronts of the layer that are less
+// than this one.
 fn keep(
     there: &[Front],
     layer: &mut Vec<Front>,
@@ -91,7 +91,7 @@ fn keep(
     Ok(())
 }
 
-// Puts the fronts that the operations make of a front into the layer.
+// Adds to the layer the fronts that the operations make of `front`.
 fn step_all(
     there: &[Front],
     layer: &mut Vec<Front>,
@@ -109,7 +109,7 @@ fn step_all(
     Ok(())
 }
 
-// The next layer, of the fronts from this place on.
+// Returns the next layer: the fronts that the operations make of the fronts from index `from` on.
 fn next_layer(
     alloc: Global,
     there: &[Front],
@@ -127,7 +127,7 @@ fn next_layer(
     Ok(layer)
 }
 
-// For each row the front that the empty walk reaches.
+// Returns a front for each row, which the empty walk reaches.
 fn first_fronts(alloc: Global, rows: &[Row]) -> Result<Vec<Front>, AllocError>
     ensures { IfOk result (λ fronts. AllZip IsFirstFront rows.now fronts.items) }
 {
@@ -142,17 +142,16 @@ fn first_fronts(alloc: Global, rows: &[Row]) -> Result<Vec<Front>, AllocError>
     Ok(fronts)
 }
 
-/// The fronts that were reached.
+/// The result of the search for fronts.
 #[derive(Drop)]
 pub enum Reached {
-    /// These are all of them.
+    /// All fronts.
     All(Vec<Front>),
-    /// There are more than the budget, once the operations were tried at this many.
+    /// More fronts than the budget. The operations were tried at this number of fronts.
     Over(usize),
 }
 
-/// The fronts that walks from the rows reach, unless there are more than the budget. Takes time in proportion to the fronts, each with each
-/// operation and with each front.
+/// Returns the fronts that walks from the rows reach, or `Over` if they outnumber the budget. Costs O(fronts * operations + fronts²).
 pub fn fronts_of(
     alloc: Global,
     rows: &[Row],

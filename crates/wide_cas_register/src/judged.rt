@@ -1,4 +1,4 @@
-//! Registers with compare and set that are judged live.
+//! The judge of the history of a register with compare and set, event by event.
 ghost use Rattle.std.specs.Prelude.{◌≡◌, ◌<◌, IfOk};
 ghost use Rattle.models.specs.Objects.{cas_register};
 ghost use Rattle.linspec.specs.CasEnds.{HasMoreFrontsThan};
@@ -13,10 +13,11 @@ use judging::Step;
 use models::Op;
 use std::alloc::{AllocError, Global};
 
-/// The history of one register, judged as its events come, by its ends: it is linearizable exactly if it has one (`cas_ends`).
+/// The history of one register with compare and set, judged event by event, by its ends. The history is linearizable if and only if it has
+/// an end (`cas_ends`).
 ///
-/// An event can be prepared and then committed. `prepare` may run out of memory, and changes nothing until `commit`, which takes no
-/// memory. A second `prepare` replaces the first.
+/// An event is first prepared and then committed. `prepare` may run out of memory, and changes nothing until `commit`, which does not
+/// allocate. A second `prepare` replaces the first one.
 #[derive(Drop)]
 pub struct WideCasRegister {
     alloc: Global,
@@ -27,14 +28,14 @@ pub struct WideCasRegister {
     next: Option<Kept>,
 }
 
-// Whether an event of this kind can kill.
+// Returns whether an event of this kind can make the history illegal.
 fn can_kill(kind: EventKind) -> bool
     ensures { result ≡ kills kind }
 {
     matches!(kind, EventKind::Ok | EventKind::Fail)
 }
 
-// The answer to an event of this kind that leaves these facts.
+// Returns the answer to an event of this kind after which these facts hold.
 fn step_left(left: &Kept, kind: EventKind) -> Step
     ensures { IsStepLeft left.now kind result }
 {
@@ -46,7 +47,7 @@ fn step_left(left: &Kept, kind: EventKind) -> Step
 }
 
 impl WideCasRegister {
-    /// A history without events. The budget is the greatest number of fronts that an ok may meet. Takes constant time.
+    /// Returns the judge of a history without events. `budget` is the maximum number of fronts just before an ok. Takes constant time.
     pub fn start(alloc: Global, budget: u32) -> Result<Self, AllocError>
         ensures { IfOk result (λ w. IsStart budget (view_of w)) }
     {
@@ -59,21 +60,21 @@ impl WideCasRegister {
         })
     }
 
-    /// The greatest number of fronts that an ok may meet.
+    /// Returns the maximum number of fronts just before an ok.
     pub fn budget(&self) -> u32
         ensures { result ≡ (view_of self.now).budget }
     {
         self.budget
     }
 
-    /// How many steps were made so far: each tries an operation at a front.
+    /// Returns the number of steps so far. Each step tries an operation at a front.
     pub fn applied(&self) -> u64
         ensures { result ≡ (view_of self.now).applied }
     {
         self.applied
     }
 
-    // How many steps there are after those that try each operation at this many fronts.
+    // Returns the number of steps after each operation was tried at `tried` further fronts.
     fn counted(&self, tried: usize) -> u64
         ensures { IsCounted self.now.kept.calls.items tried self.now.applied result }
     {
@@ -81,11 +82,11 @@ impl WideCasRegister {
         self.applied.saturating_add(steps)
     }
 
-    /// Prepares an event of an operation, and gives its answer. The id is the index of the operation's invocation: a new one for an
-    /// invocation, else that of an open operation. The part of an ok is the answer. Over if the event is an ok and more fronts than the
-    /// budget stand just before it: then nothing is prepared. An invocation and an info are answered Alive, since they kill nothing. The
-    /// register stands for the same histories until [`commit`](Self::commit); after `AllocError` no commit must follow. A second `prepare`
-    /// replaces the first. Takes time in proportion to the pairs of the rows that it makes.
+    /// Prepares an event of an operation, and returns its answer. `id` is the index of the operation's invocation: a new one for an
+    /// invocation, and otherwise that of an open operation. The part of an ok is the answer. Returns Over if the event is an ok and the
+    /// fronts just before it outnumber the budget; nothing is prepared then. Returns Alive for an invocation and an info, since they never
+    /// make a history illegal. Until [`commit`](Self::commit) the register represents the same histories. Do not call `commit` after
+    /// `AllocError`. A second `prepare` replaces the first one. Costs O(pairs of the new rows).
     pub fn prepare(&mut self, id: u32, kind: EventKind, op: &Op) -> Result<Step, AllocError>
         ensures { Prepares (view_of self.old) (view_of self.new) HasMoreFrontsThan cas_register
             (mark_by id kind op.now) result }
@@ -106,7 +107,7 @@ impl WideCasRegister {
         }
     }
 
-    /// Carries out what is prepared, if anything is. It takes no memory and cannot fail.
+    /// Carries out the prepared event, if there is one. Does not allocate and cannot fail.
     pub fn commit(&mut self)
         ensures { Commits (view_of self.old) (view_of self.new) }
     {
@@ -115,8 +116,8 @@ impl WideCasRegister {
         }
     }
 
-    /// An event of an operation: [`prepare`](Self::prepare) and [`commit`](Self::commit) in one. After Over, and on `AllocError`, the register
-    /// stands for the same histories as before.
+    /// Observes an event of an operation. Does the same as [`prepare`](Self::prepare) and [`commit`](Self::commit). After Over and
+    /// `AllocError` the register represents the same histories as before.
     pub fn observe(&mut self, id: u32, kind: EventKind, op: &Op) -> Result<Step, AllocError>
         ensures { Observes (view_of self.old) (view_of self.new) HasMoreFrontsThan cas_register
             (mark_by id kind op.now) result }
@@ -126,7 +127,7 @@ impl WideCasRegister {
         Ok(step)
     }
 
-    /// An equal one, without a prepared event. Takes time in proportion to the operations and the rows with their lists.
+    /// Returns an equal register with nothing prepared. Costs O(operations + rows and their lists).
     pub fn copy(&self) -> Result<Self, AllocError>
         ensures { IfOk result (λ w. IsCopy (view_of self.now) (view_of w)) }
     {

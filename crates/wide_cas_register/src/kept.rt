@@ -1,4 +1,4 @@
-//! The facts that are kept of the history of a register with compare and set.
+//! The facts about the history of a register with compare and set that its judge stores.
 ghost use Rattle.std.specs.Prelude.{◌≡◌, ◌+◌, [], map, IfOk, OnOk};
 ghost use Rattle.std.specs.List.{filter};
 ghost use Rattle.events.specs.Events.{act_by, mark_by_act};
@@ -15,7 +15,7 @@ use events::EventKind;
 use models::Op;
 use std::alloc::{AllocError, Global};
 
-/// The facts that are kept of a history: the number of its marks, the operations that may still take place, and the ends.
+/// The stored facts of a history: the number of its marks, the operations that may still take place, and the ends.
 #[derive(Drop)]
 pub struct Kept {
     pub moment: u64,
@@ -23,7 +23,7 @@ pub struct Kept {
     pub rows: Vec<Row>,
 }
 
-// The same operations again.
+// Returns a copy of the operations.
 fn calls_copied(calls: &Vec<Call>) -> Result<Vec<Call>, AllocError>
     ensures { IfOk result (λ made. made.items ≡ calls.now.items) }
 {
@@ -31,7 +31,7 @@ fn calls_copied(calls: &Vec<Call>) -> Result<Vec<Call>, AllocError>
     Ok(made)
 }
 
-// The operations after an invocation.
+// Adds the operation of an invocation, if the register has such an operation.
 fn call_invoked(calls: &mut Vec<Call>, since: u64, id: u32, op: &Op) -> Result<(), AllocError>
     ensures { OnOk result (calls.new.items ≡ calls_with calls.old.items since id (what_by op.now.name op.now.part)) }
 {
@@ -46,14 +46,14 @@ fn call_invoked(calls: &mut Vec<Call>, since: u64, id: u32, op: &Op) -> Result<(
     Ok(())
 }
 
-// The operation may take place no longer.
+// Removes operation `id`, which can no longer take place.
 fn call_out(calls: &mut Vec<Call>, id: u32)
     ensures { calls.new.items ≡ filter (is_other id) calls.old.items }
 {
     calls.retain(|call| call.id != id);
 }
 
-// The operation as it is after the one with this id has crashed.
+// Returns the operation after the crash of operation `id`.
 fn crashed_call(call: &Call, id: u32) -> Call
     ensures { result ≡ crashed id call.now }
 {
@@ -63,14 +63,14 @@ fn crashed_call(call: &Call, id: u32) -> Call
     }
 }
 
-// Whether the operation may still take place after the one with this id has crashed.
+// Returns whether the operation may still take place after the crash of operation `id`.
 fn is_left(call: &Call, id: u32) -> bool
     ensures { result ≡ outlives id call.now }
 {
     call.id != id || call.what != What::Reads
 }
 
-// The operations after one has crashed.
+// Returns the operations that may still take place after the crash of operation `id`.
 fn calls_crashed(alloc: Global, calls: &[Call], id: u32) -> Result<Vec<Call>, AllocError>
     ensures { IfOk result (λ left. left.items ≡ map (crashed id) (filter (outlives id) calls.now)) }
 {
@@ -84,7 +84,7 @@ fn calls_crashed(alloc: Global, calls: &[Call], id: u32) -> Result<Vec<Call>, Al
 }
 
 impl Kept {
-    /// The facts of a history without events. Takes constant time.
+    /// Returns the facts of a history without events. Takes constant time.
     pub fn start(alloc: Global) -> Result<Kept, AllocError>
         ensures { IfOk result (λ k. AreFacts k []) }
     {
@@ -97,7 +97,7 @@ impl Kept {
         })
     }
 
-    /// The same again. Takes time in proportion to the operations and the rows with their lists.
+    /// Returns a copy of the facts. Costs O(operations + rows and their lists).
     pub fn copy(&self, alloc: Global) -> Result<Kept, AllocError>
         ensures { IfOk result (AreSame self.now) }
     {
@@ -113,7 +113,7 @@ impl Kept {
         })
     }
 
-    // The moment after the next mark; `AllocError` if there are as many marks as can be counted.
+    // Returns the moment after the next mark. `AllocError` if the number of marks cannot grow any more.
     fn next_moment(&self) -> Result<u64, AllocError>
         ensures { IfOk result (λ moment. moment ≡ self.now.moment + 1) }
     {
@@ -123,7 +123,7 @@ impl Kept {
         }
     }
 
-    // The operations that may still take place after the event.
+    // Returns the operations that may still take place after the event.
     fn calls_after(
         &self,
         alloc: Global,
@@ -146,7 +146,7 @@ impl Kept {
         Ok(calls)
     }
 
-    // The rows after the event, of these fronts.
+    // Returns the rows that the effect makes of the rows and of the fronts. `later` has the operations after the event.
     fn rows_after(
         &self,
         alloc: Global,
@@ -170,8 +170,8 @@ impl Kept {
         Ok(left)
     }
 
-    /// The fronts that the event meets: all or more than the budget, if it is an ok; else none. Takes time in proportion to the fronts,
-    /// each with each operation and with each front.
+    /// Returns the fronts just before an event of this kind: all of them, or `Over` if they outnumber the budget. Only an ok has fronts.
+    /// Costs O(fronts * operations + fronts²).
     pub fn reached(
         &self,
         alloc: Global,
@@ -187,8 +187,7 @@ impl Kept {
         }
     }
 
-    /// The facts after the event of an operation, which meets these fronts. The id is that of the operation, and the part of an ok is the
-    /// answer.
+    /// Returns the facts after an event of operation `id`. `fronts` are the fronts just before it. The part of an ok is the answer.
     pub fn after(
         &self,
         alloc: Global,

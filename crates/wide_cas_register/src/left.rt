@@ -1,4 +1,4 @@
-//! Rows that are at most another one are left out.
+//! Removal of the rows that are at most another row.
 ghost use Rattle.std.specs.Prelude.{◌≡◌, ◌↔◌, ◌⊎◌, ℕ, IsTrue, OnOk};
 ghost use Rattle.std.specs.List.{Contains};
 ghost use Rattle.wide_cas_register.specs.Facts.{AreApart, AreLeftOut, FitsAt, IsAtMostBy, IsKeptIn};
@@ -10,7 +10,7 @@ use crate::calls::Call;
 use crate::row::{Found, Row, has_found, has_id};
 use std::alloc::AllocError;
 
-// Whether each of these ids is among those.
+// Returns whether `those` contains each id in `these`.
 fn has_ids(those: &[u32], these: &[u32]) -> bool
     ensures { IsTrue result ↔ ((i : ℕ) → Contains these.now i → Contains those.now i) }
 {
@@ -22,7 +22,7 @@ fn has_ids(those: &[u32], these: &[u32]) -> bool
     true
 }
 
-// Whether each read that may find a value here may find it there.
+// Returns whether each read that may find a value by `these` may find it by `those`.
 fn has_finds(those: &[Found], these: &[Found]) -> bool
     ensures { IsTrue result ↔ ((f : Found) → Contains these.now f → Contains those.now f) }
 {
@@ -34,8 +34,8 @@ fn has_finds(those: &[Found], these: &[Found]) -> bool
     true
 }
 
-// Whether the operation lets the row be at most the other row. If it is open and the row needs it, the other row needs it, too. If it may
-// take place before the row's last write, it may take place before the other row's last write, too.
+// Returns whether the operation allows `row` to be at most `other`. If it is open and `row` needs it, `other` must need it. If it may take
+// place just before the last write of `row`, it must be allowed just before the last write of `other` too.
 fn fits(call: &Call, row: &Row, other: &Row) -> bool
     ensures { IsTrue result ↔ FitsAt row.now other.now call.now }
 {
@@ -46,7 +46,7 @@ fn fits(call: &Call, row: &Row, other: &Row) -> bool
     }
 }
 
-// Whether all of them do.
+// Returns whether all operations allow `row` to be at most `other`.
 fn all_fit(calls: &[Call], row: &Row, other: &Row) -> bool
     ensures { IsTrue result ↔ ((c : Call) → Contains calls.now c → FitsAt row.now other.now c) }
 {
@@ -58,7 +58,7 @@ fn all_fit(calls: &[Call], row: &Row, other: &Row) -> bool
     true
 }
 
-/// Whether `other` may become every row that `row` may become. Costs O((lists of `row` + operations) * lists of both).
+/// Returns whether `other` may become every row that `row` may become. Costs O((lists of `row` + operations) * lists of both).
 pub fn is_at_most(calls: &[Call], row: &Row, other: &Row) -> bool
     ensures { IsTrue result ↔ IsAtMostBy calls.now row.now other.now }
 {
@@ -74,7 +74,7 @@ pub fn is_at_most(calls: &[Call], row: &Row, other: &Row) -> bool
     all_fit(calls, row, other)
 }
 
-// Whether the row is at most one of these.
+// Returns whether the row is at most one of `rows`.
 fn is_covered(rows: &[Row], calls: &[Call], row: &Row) -> bool
     ensures { IsTrue result ↔ IsKeptIn calls.now rows.now row.now }
 {
@@ -86,7 +86,7 @@ fn is_covered(rows: &[Row], calls: &[Call], row: &Row) -> bool
     false
 }
 
-// Leaves out those that are at most the row.
+// Removes the rows that are at most `row`.
 fn leave_out(rows: &mut Vec<Row>, calls: &[Call], row: &Row)
     ensures { AreLeftOut calls.now row.now rows.old.items rows.new.items }
 {
@@ -108,7 +108,7 @@ pub fn keep(rows: &mut Vec<Row>, calls: &[Call], row: Row) -> Result<(), AllocEr
     Ok(())
 }
 
-/// Puts all of these rows among those. Takes time in proportion to the pairs of rows.
+/// Adds each row of `more`, as [`keep`] does. Costs O(pairs of rows).
 pub fn keep_all(rows: &mut Vec<Row>, calls: &[Call], mut more: Vec<Row>) -> Result<(), AllocError>
     ensures each { OnOk result ((r : Row) → Contains rows.new.items r → Contains rows.old.items r ⊎ Contains more.items r) }
     ensures old { OnOk result ((r : Row) → Contains rows.old.items r → IsKeptIn calls.now rows.new.items r) }

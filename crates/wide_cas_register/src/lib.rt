@@ -1,7 +1,7 @@
-//! The history of one register with compare and set, judged as its events come, by its ends. A read, or a write that the next write hides,
-//! is among the operations of an end only if an answer needs it.
+//! The judge of the history of one register with compare and set, event by event, by its ends. An end contains a read, or a write that the
+//! next write hides, only if an answer requires it.
 //!
-//! A call takes memory only where its result can be `AllocError`.
+//! A call allocates only if its result can be `AllocError`.
 #![tactic(auto)]
 
 mod calls;

@@ -17,27 +17,27 @@ use std::alloc::{AllocError, Global};
 /// The effect of an event on each row.
 #[derive(Clone, Copy)]
 pub enum Effect {
-    /// It stays.
+    /// The row does not change.
     Keeps,
     /// A read with this id begins.
     Begins(u32),
-    /// The operation with this id is out.
+    /// The operation with this id can no longer take place.
     Leaves(u32),
-    /// It is out, and must not have taken place.
+    /// The operation with this id must not have taken place. Rows that need it are removed.
     Fails(u32),
-    /// This write of this value is done.
+    /// This write of this value has returned.
     EndsWrite(Call, i64),
-    /// This cas of these values is done.
+    /// This cas of these values has returned.
     EndsCas(Call, i64, i64),
     /// This read has answered this value.
     EndsRead(Call, i64),
     /// The read with this id has answered nothing.
     EndsNil(u32),
-    /// Nothing is left of any row.
+    /// All rows are removed.
     Dies,
 }
 
-// The effect of an invocation on each row.
+// Returns the effect of an invocation on each row.
 fn effect_of_invoke(calls: &[Call], id: u32, op: &Op) -> Effect
     ensures { IsEffect calls.now (Invoked id op.now) result }
 {
@@ -47,7 +47,7 @@ fn effect_of_invoke(calls: &[Call], id: u32, op: &Op) -> Effect
     }
 }
 
-// The effect of the answer of a read on each row.
+// Returns the effect of a read's answer on each row.
 fn effect_of_answer(read: Call, part: &Part) -> Effect
     ensures { IsEffectOfAnswer read (answer_of part.now) result }
 {
@@ -58,7 +58,7 @@ fn effect_of_answer(read: Call, part: &Part) -> Effect
     }
 }
 
-// The effect of an ok on each row.
+// Returns the effect of an ok on each row.
 fn effect_of_ok(calls: &[Call], id: u32, part: &Part) -> Effect
     ensures { IsEffect calls.now (Returned id (answer_of part.now)) result }
 {
@@ -72,7 +72,7 @@ fn effect_of_ok(calls: &[Call], id: u32, part: &Part) -> Effect
     }
 }
 
-// The effect of an info on each row.
+// Returns the effect of an info on each row.
 fn effect_of_info(calls: &[Call], id: u32) -> Effect
     ensures { IsEffect calls.now (Crashed id) result }
 {
@@ -85,7 +85,7 @@ fn effect_of_info(calls: &[Call], id: u32) -> Effect
     }
 }
 
-/// The effect of an event of an operation on each row. The id is that of the operation, and the part of an ok is the answer.
+/// Returns the effect of an event of operation `id` on each row. The part of an ok is the answer.
 pub fn effect_of(calls: &[Call], id: u32, kind: EventKind, op: &Op) -> Effect
     ensures { IsEffect calls.now (mark_by_act id id (act_by kind op.now)) result }
 {
@@ -97,14 +97,14 @@ pub fn effect_of(calls: &[Call], id: u32, kind: EventKind, op: &Op) -> Effect
     }
 }
 
-// Whether the operation is a write of the value that did not take place yet, and may do so just before the last write.
+// Returns whether the operation is a write of the value that the row does not need. It must be allowed just before the last write.
 fn is_free(row: &Row, call: &Call, value: i64) -> bool
     ensures { IsTrue result ↔ IsFree row.now value call.now }
 {
     call.what == What::Writes(value) && row.has_door(call)
 }
 
-// The write takes place just before the last write; the operation with the last id is done by it.
+// Returns the row after the write takes place just before the last write. Operation `done` is complete then, and is not needed any more.
 fn put_before(
     row: &Row,
     calls: &[Call],
@@ -119,7 +119,7 @@ fn put_before(
     Ok(mid)
 }
 
-// The row alone.
+// Returns a list of this row.
 fn one(alloc: Global, row: Row) -> Result<Vec<Row>, AllocError>
     ensures { IfOk result (λ made. made.items ≡ row ∷ []) }
 {
@@ -128,7 +128,7 @@ fn one(alloc: Global, row: Row) -> Result<Vec<Row>, AllocError>
     Ok(made)
 }
 
-// The operation has failed.
+// Returns the rows after operation `id` has failed: none if the row needs it, and otherwise the row without it.
 fn fail(alloc: Global, row: &Row, id: u32) -> Result<Vec<Row>, AllocError>
     ensures each { IfOk result (λ made. (new : Row) → Contains made.items new → OfRow [] (Effect.Fails id) row.now new) }
     ensures all { IfOk result (λ made. AllOfRow [] (Effect.Fails id) row.now (Contains made.items)) }
@@ -142,7 +142,7 @@ fn fail(alloc: Global, row: &Row, id: u32) -> Result<Vec<Row>, AllocError>
     Ok(made)
 }
 
-// The write is done, and was in the row or takes place just before the last write.
+// Returns the rows after the write has returned. The row must need the write, or the write must be allowed just before the last write.
 fn end_write(
     alloc: Global,
     row: &Row,
@@ -169,7 +169,7 @@ fn end_write(
     Ok(Vec::new(alloc))
 }
 
-// The cas is done, and was in the row.
+// Returns the rows after the cas has returned. The row must need the cas.
 fn end_cas(alloc: Global, row: &Row, cas: &Call) -> Result<Vec<Row>, AllocError>
     ensures each { IfOk result (λ made. (new : Row) → Contains made.items new
         → Contains row.now.needed.items cas.now.id × IsWithoutId cas.now.id row.now new) }
@@ -185,7 +185,7 @@ fn end_cas(alloc: Global, row: &Row, cas: &Call) -> Result<Vec<Row>, AllocError>
     Ok(Vec::new(alloc))
 }
 
-// A write of the value takes place just before the last write, where the read may find it.
+// Returns the rows in which a write of the value takes place just before the last write, such that the read may find the value.
 fn write_for_read(
     alloc: Global,
     row: &Row,
@@ -207,7 +207,7 @@ fn write_for_read(
     Ok(made)
 }
 
-// The read has answered the value, and may find it in the row.
+// Returns the rows after the read has answered the value, which it must be able to find in the row.
 fn end_read(
     alloc: Global,
     row: &Row,
@@ -237,7 +237,7 @@ fn end_read(
     Ok(Vec::new(alloc))
 }
 
-/// The rows that the effect makes of a row. Takes time in proportion to the operations, each with the values that the row finds.
+/// Returns the rows that the effect makes of a row. Costs O(operations * values that the row finds).
 pub fn rows_of_row(
     alloc: Global,
     row: &Row,
@@ -272,7 +272,7 @@ pub fn rows_of_row(
     }
 }
 
-// The update is done behind the front.
+// Returns the row in which the write or cas takes place after the front and has returned, if it may take place there.
 fn done_behind(
     front: &Front,
     calls: &[Call],
@@ -293,7 +293,7 @@ fn done_behind(
     }
 }
 
-// The read has answered the value, which is the state of the front.
+// Returns the row after the read has answered the value, if the value is the state of the front.
 fn read_behind(front: &Front, id: u32, value: i64) -> Result<Option<Row>, AllocError>
     ensures each { IfOk result (λ (made : Option Row). IfSome made
         (λ new. (front.now.row.state ≡ Some value) × IsWithoutId id front.now.row new)) }
@@ -307,7 +307,7 @@ fn read_behind(front: &Front, id: u32, value: i64) -> Result<Option<Row>, AllocE
     Ok(Some(out))
 }
 
-/// The row that the effect makes of a front, if any. Takes time in proportion to the operations, each with the values that the front finds.
+/// Returns the row that the effect makes of a front, if there is one. Costs O(operations * values that the front finds).
 pub fn row_of_front(
     front: &Front,
     calls: &[Call],

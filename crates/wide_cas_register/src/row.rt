@@ -1,4 +1,4 @@
-//! Ends as they are kept.
+//! The representation of ends.
 ghost use Rattle.std.specs.Prelude.{◌≡◌, ◌<◌, ◌↔◌, ◌⊎◌, IfOk, IsTrue, OnOk};
 ghost use Rattle.std.specs.List.{Contains};
 ghost use Rattle.wide_cas_register.specs.Facts.{HasDoor, IsBegun, IsFirst, IsFoundBy, IsPut, IsSame, IsSet, IsWithoutId, is_set};
@@ -14,8 +14,9 @@ pub struct Found {
     pub value: i64,
 }
 
-/// An end: the state, the open and crashed writes and cas that took place, and what each open read may find. A read or a write that is not
-/// among these may still take place just before the last write if fewer marks than `door` came before its invocation.
+/// An end. It has the state, the open and crashed writes and cas that took place (`needed`), and the values that each open read may find
+/// (`finds`). A read or a write outside `needed` may still take place just before the last write, if fewer marks than `door` came before
+/// its invocation.
 #[derive(Drop)]
 pub struct Row {
     pub state: Option<i64>,
@@ -24,35 +25,35 @@ pub struct Row {
     pub finds: Vec<Found>,
 }
 
-// Whether the id is among `ids`. Costs O(ids).
+// Returns whether `ids` contains the id. Costs O(ids).
 pub fn has_id(ids: &[u32], id: u32) -> bool
     ensures { IsTrue result ↔ Contains ids.now id }
 {
     ids.contains(&id)
 }
 
-// Whether the read may find the value. Costs O(found values).
+// Returns whether the read may find the value. Costs O(found values).
 pub fn has_found(finds: &[Found], found: Found) -> bool
     ensures { IsTrue result ↔ Contains finds.now found }
 {
     finds.contains(&found)
 }
 
-// Whether the operation is a cas.
+// Returns whether the operation is a cas.
 pub fn is_cas(call: &Call) -> bool
     ensures { result ≡ is_set call.now.what }
 {
     matches!(call.what, What::Sets(_, _))
 }
 
-// Whether the operation is a read that was invoked before the gap.
+// Returns whether the operation is a read that was invoked before the gap.
 fn may_find(call: &Call, gap: u64) -> bool
     ensures { IsTrue result ↔ ((call.now.what ≡ What.Reads) × (call.now.since < gap)) }
 {
     matches!(call.what, What::Reads) && call.since < gap
 }
 
-// The read may find the value, too. Costs O(found values).
+// Notes that the read may find the value. Costs O(found values).
 fn note(finds: &mut Vec<Found>, found: Found) -> Result<(), AllocError>
     ensures { OnOk result ((f : Found) → Contains finds.new.items f ↔ (Contains finds.old.items f ⊎ (found ≡ f))) }
 {
@@ -62,7 +63,7 @@ fn note(finds: &mut Vec<Found>, found: Found) -> Result<(), AllocError>
     Ok(())
 }
 
-// Each open read that was invoked before the gap may find the value. Costs O(operations * found values).
+// Notes that each open read that was invoked before `gap` may find the value. Costs O(operations * found values).
 fn find_value(
     finds: &mut Vec<Found>,
     calls: &[Call],
@@ -87,7 +88,7 @@ fn find_value(
 }
 
 impl Row {
-    /// The end of no operation. Takes constant time, and no memory.
+    /// Returns the end without operations. Takes constant time, and does not allocate.
     pub fn start(alloc: Global) -> Row
         ensures { IsFirst result }
     {
@@ -99,7 +100,7 @@ impl Row {
         }
     }
 
-    /// The same again. Costs O(`needed` + `finds`).
+    /// Returns a copy of the row. Costs O(`needed` + `finds`).
     pub fn copy(&self) -> Result<Row, AllocError>
         ensures { IfOk result (IsSame self.now) }
     {
@@ -111,14 +112,14 @@ impl Row {
         })
     }
 
-    /// Whether the operation, a read or a write, may still take place just before the last write.
+    /// Returns whether the operation, a read or a write, may still take place just before the last write.
     pub fn has_door(&self, call: &Call) -> bool
         ensures { IsTrue result ↔ HasDoor self.now call.now }
     {
         call.since < self.door && !has_id(&self.needed, call.id) && !is_cas(call)
     }
 
-    /// The operation is done, or out. Costs O(`needed` + `finds`).
+    /// Removes operation `id`: it has returned, or can no longer take place. Costs O(`needed` + `finds`).
     pub fn leave(&mut self, id: u32)
         ensures { IsWithoutId id self.old self.new }
     {
@@ -126,7 +127,7 @@ impl Row {
         self.finds.retain(|found| found.read != id);
     }
 
-    /// The row without the operation. Costs O(`needed` + `finds`).
+    /// Returns the row without operation `id`. Costs O(`needed` + `finds`).
     pub fn without(&self, id: u32) -> Result<Row, AllocError>
         ensures { IfOk result (IsWithoutId id self.now) }
     {
@@ -135,7 +136,7 @@ impl Row {
         Ok(row)
     }
 
-    /// The row as the read begins, which may find the state. Costs O(`needed` + `finds`).
+    /// Returns the row after read `id` begins. The read may find the state. Costs O(`needed` + `finds`).
     pub fn with_read(&self, id: u32) -> Result<Row, AllocError>
         ensures { IfOk result (IsBegun id self.now) }
     {
@@ -146,8 +147,8 @@ impl Row {
         Ok(row)
     }
 
-    /// The row as the write takes place at this gap, and leaves this state behind all. Takes time in proportion to its lists and to
-    /// the operations, each with the found values.
+    /// Returns the row after the write takes place at `gap`. The last state is then `state`. Costs O(its lists + operations * found
+    /// values).
     pub fn put(
         &self,
         calls: &[Call],
@@ -166,8 +167,7 @@ impl Row {
         Ok(row)
     }
 
-    /// The row as the cas takes place behind all others, at this moment, and leaves this value. Takes time in proportion to its
-    /// lists and to the operations, each with the found values.
+    /// Returns the row after the cas takes place last, at this moment, and leaves `value`. Costs O(its lists + operations * found values).
     pub fn set(&self, calls: &[Call], cas: u32, value: i64, moment: u64) -> Result<Row, AllocError>
         ensures { IfOk result (IsSet calls.now cas value moment self.now) }
     {

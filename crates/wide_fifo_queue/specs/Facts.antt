@@ -1,4 +1,4 @@
--- Invariant: the facts that are kept of the history of a queue. The moment of a mark is the number of marks before it
+-- Invariant: the kept facts of the history of a queue. The moment of a mark is the number of marks before it
 use Rattle.std.specs.Prelude.{◌≡◌, ◌≢◌, ℕ, ◌+◌, ◌<◌, ◌≤◌, ℤ, ◌<ℤ◌, ◌⊎◌, Bool, not, nat_eq, Some, None, List, [], ◌∷◌, ◌++◌, length}
 use Rattle.std.specs.List.{Contains}
 use Rattle.std.specs.Ordering.{int_eq}
@@ -24,26 +24,26 @@ use Rattle.wide_fifo_queue.specs.declared.known.Waiting.{Waiting}
 use Rattle.wide_fifo_queue.specs.declared.known.Owed.{Owed}
 use Rattle.wide_fifo_queue.specs.declared.known.Known.{Known}
 
--- what an operation does to a queue
+-- the effect of an operation on a queue
 abbrev pub call_by : Name → Part → Call
 call_by Enqueue (Int v) = calls.Enqueue v
 call_by Dequeue Nil = calls.Dequeue
 call_by _ _ = calls.Other
 
--- the mark stands at this moment
+-- the mark has this moment: that many marks come before it
 pub record StandsAt (marks : List Mark) (moment : ℕ) (mark : Mark) : Type 0 where
   pub before : List Mark
   pub after : List Mark
   pub cut : before ++ mark ∷ after ≡ marks
   pub here : length before ≡ moment
 
--- the open operations, each once or more often
+-- `pending` has each open operation, once or more often
 pub record ArePending (pending : List Pending) (marks : List Mark) : Type 0 where
   pub is : (p : Pending) → Contains pending p → IsOpen marks p.id
       × ((op : Op) × StandsAt marks p.since (Invoked p.id op) × (call_by op.name op.part ≡ p.call))
   pub all : (id : ℕ) → IsOpen marks id → (p : Pending) × Contains pending p × (p.id ≡ id)
 
--- it is an enqueue that has not failed
+-- e is an enqueue that has not failed
 pub record IsEntry (marks : List Mark) (e : Enqueued) : Type 0 where
   pub op : Op
   pub enqueues : Enqueues op e.value
@@ -55,11 +55,12 @@ abbrev pub IsTakenAt : List Mark → ℤ → ℕ → Type 0
 IsTakenAt marks v moment =
     (d : ℕ) × HasDequeued marks d v × StandsAt marks moment (Returned d (Number v))
 
--- each value comes before each later one
+-- the enqueues are in ascending order of their values
 abbrev pub IsByValue : List Enqueued → Type 0
 IsByValue entered = Pairwise (λ d e. d.value <ℤ e.value) entered
 
--- the enqueues that have not failed: one of each value, with the moment at which the value was dequeued, and the others, which are late
+-- the enqueues that have not failed. `entered` has one of each value, with the moment at which the value was dequeued; `late` has the
+-- others, which are late
 pub record AreEntries (entered late : List Enqueued) (marks : List Mark) : Type 0 where
   pub is : (e : Enqueued) → Contains entered e → IsEntry marks e
   pub is_late : (e : Enqueued) → Contains late e → IsEntry marks e × IsLate marks e.id × (e.taken ≡ None)
@@ -72,7 +73,7 @@ pub record AreEntries (entered late : List Enqueued) (marks : List Mark) : Type 
   pub told : (e : Enqueued) (d : ℕ) → Contains entered e → HasDequeued marks d e.value
       → (moment : ℕ) × (e.taken ≡ Some moment)
 
--- the value waits: its enqueue returned at this moment, and it was not dequeued
+-- the value waits: its enqueue returned at this moment, and the value was not dequeued
 pub record Waits (entered : List Enqueued) (marks : List Mark) (v : ℤ) (moment : ℕ) : Type 0 where
   pub entry : Enqueued
   pub here : Contains entered entry
@@ -81,32 +82,33 @@ pub record Waits (entered : List Enqueued) (marks : List Mark) (v : ℤ) (moment
   pub answer : Answer
   pub stands : StandsAt marks moment (Returned entry.id answer)
 
--- a value that came in by this moment was passed over: a dequeue at the other moment took a value whose enqueue was invoked later
+-- a value whose enqueue returned at the moment `by` was passed over: a dequeue that returned at `moment` took a value whose enqueue was
+-- invoked later
 pub record IsPassed (entered : List Enqueued) (by moment : ℕ) : Type 0 where
   pub entry : Enqueued
   pub here : Contains entered entry
   pub taken : entry.taken ≡ Some moment
   pub after : by < entry.since
 
--- the values that wait and were not passed over, by the returns of their enqueues
+-- the values that wait and were not passed over, in the order of the returns of their enqueues
 pub record AreWaiting (entered : List Enqueued) (waiting : List Waiting) (marks : List Mark) : Type 0 where
   pub is : (w : Waiting) → Contains waiting w → Waits entered marks w.value w.by
   pub not_passed : (w : Waiting) (moment : ℕ) → Contains waiting w → ¬ IsPassed entered w.by moment
   pub in_order : Pairwise (λ v w. v.by < w.by) waiting
 
--- the values that wait and were passed over, each once, by the first moments at which they were
+-- the values that wait and were passed over, each once, in the order of the first moments at which they were passed over
 pub record AreOwed (entered : List Enqueued) (owed : List Owed) (marks : List Mark) : Type 0 where
   pub is : (o : Owed) → Contains owed o → Waits entered marks o.value o.by
   pub passed : (o : Owed) → Contains owed o → IsPassed entered o.by o.deadline
   pub least : (o : Owed) (moment : ℕ) → Contains owed o → IsPassed entered o.by moment → o.deadline ≤ moment
   pub in_order : Pairwise (λ o p. (o.deadline ≤ p.deadline) × (o.value ≢ p.value)) owed
 
--- the value that waits since this moment was passed over, or not
+-- the value that waits since this moment is among the waiting ones or the owed ones
 abbrev pub IsAmong : List Waiting → List Owed → ℤ → ℕ → Type 0
 IsAmong waiting owed v moment = ((w : Waiting) × Contains waiting w × (w.value ≡ v) × (w.by ≡ moment))
     ⊎ ((o : Owed) × Contains owed o × (o.value ≡ v) × (o.by ≡ moment))
 
--- the invocations of the dequeues that are open or have crashed
+-- the moments of the invocations of the dequeues that are open or have crashed
 pub record AreMoments (takers : List ℕ) (marks : List Mark) : Type 0 where
   pub is : (t : ℕ) → Contains takers t
       → (id : ℕ) × (op : Op) × MayDequeue marks id × StandsAt marks t (Invoked id op)
@@ -114,13 +116,13 @@ pub record AreMoments (takers : List ℕ) (marks : List Mark) : Type 0 where
       → (t : ℕ) × (op : Op) × Contains takers t × StandsAt marks t (Invoked id op)
   pub in_order : Pairwise (λ s t. s < t) takers
 
--- each owed value has a taker that was invoked before its deadline: the first the first one, and so on
+-- each owed value has a taker that was invoked by its deadline: the first value the first taker, and so on
 abbrev pub IsServed : List ℕ → List Owed → Type 0
 IsServed takers [] = Unit {0}
 IsServed [] (o ∷ owed) = ⊥
 IsServed (t ∷ takers) (o ∷ owed) = (t ≤ o.deadline) × IsServed takers owed
 
--- what is known, apart from how it is kept
+-- the facts, without the form in which they are kept
 pub record Facts : Type 0 where
   pub now : ℕ
   pub pending : List Pending
@@ -130,7 +132,7 @@ pub record Facts : Type 0 where
   pub owed : List Owed
   pub takers : List ℕ
 
--- those of a history without events
+-- the facts of a history without events
 abbrev pub no_facts : Facts
 no_facts = record {
   now = 0;
@@ -153,7 +155,7 @@ facts_of k = record {
   takers = k.takers.items;
 }
 
--- these are the facts of the history, which is paired
+-- f has the facts of the history, which is paired
 pub record AreFacts (f : Facts) (marks : List Mark) : Type 0 where
   pub well : AreWellFormed marks
   pub paired : IsPaired marks
@@ -165,11 +167,11 @@ pub record AreFacts (f : Facts) (marks : List Mark) : Type 0 where
   pub among : (v : ℤ) (moment : ℕ) → Waits f.entered marks v moment → IsAmong f.waiting f.owed v moment
   pub takers : AreMoments f.takers marks
 
--- the facts after one more mark that changes no value, and leaves these operations open
+-- the facts after a mark that changes no value, if these operations are open after it
 abbrev pub later : List Pending → Facts → Facts
 later pending f = record f { now = f.now + 1; pending = pending }
 
--- the others
+-- each says whether something is not the one with this id, moment or value
 abbrev pub is_other : ℕ → Pending → Bool
 is_other id p = not (nat_eq p.id id)
 
@@ -182,6 +184,6 @@ is_other_value v o = not (int_eq o.value v)
 abbrev pub is_other_enqueue : ℕ → Enqueued → Bool
 is_other_enqueue id e = not (nat_eq e.id id)
 
--- the value with a deadline
+-- the waiting value as an owed one with this deadline
 abbrev pub owed_by : ℕ → Waiting → Owed
 owed_by deadline w = record { value = w.value; by = w.by; deadline = deadline }

@@ -6,7 +6,7 @@ use Rattle.judging.specs.declared.step.Step.{Step}
 use Rattle.judging.specs.declared.step.Step.TheVariants.{Alive, Dead}
 use Rattle.wide_fifo_queue.specs.declared.known.Known.{Known}
 
--- an ok and a fail can kill
+-- an ok or a fail can be illegal
 abbrev pub kills : EventKind → Bool
 kills Ok = true
 kills Fail = true
@@ -19,12 +19,12 @@ is_an_ok Fail = false
 is_an_ok Invoke = false
 is_an_ok Info = false
 
--- the step of an event of a history that was not linearizable before it
+-- the step of an event after a history that was not linearizable: Dead if the event can be illegal, else Alive
 abbrev pub step_of_dead : Bool → Step
 step_of_dead true = Dead
 step_of_dead false = Alive
 
--- the step of an event after which this is known
+-- the step of an event: Dead if nothing is known after it, else Alive
 abbrev pub step_by : Option Known → Step
 step_by None = Dead
 step_by (Some known) = Alive

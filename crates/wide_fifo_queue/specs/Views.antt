@@ -1,4 +1,4 @@
--- Promise: a queue that is judged, seen as the histories that it stands for
+-- Promise: a queue that is judged, seen as its histories
 use Rattle.judging.specs.Meaning.{FrontierView}
 use Rattle.wide_fifo_queue.specs.declared.judged.WideFifoQueue.{WideFifoQueue}
 use Rattle.wide_fifo_queue.specs.Kept.{Stands}

@@ -1,4 +1,4 @@
-//! Enqueues by value.
+//! The enqueues, ordered by value.
 ghost use Rattle.std.specs.Prelude.{◌≡◌, ◌≢◌, ◌↔◌, ◌⊎◌, ◌≤◌, None, IfSome, IfOk, length};
 ghost use Rattle.std.specs.List.{Contains};
 ghost use Rattle.wide_fifo_queue.specs.declared.known.Enqueued.{Enqueued};
@@ -9,7 +9,7 @@ use crate::known::Enqueued;
 use persistent::Row;
 use std::alloc::{AllocError, Global};
 
-/// The enqueue of this value, if there is one. O(log n).
+/// Returns the enqueue of this value, if there is one. Costs O(log n).
 pub fn entry_of(entered: &Row<Enqueued>, value: i64) -> Option<Enqueued>
     ensures found { IfSome result (λ e. Contains entered.now e × (e.value ≡ value)) }
     ensures none { IsByValue entered.now → result ≡ None → (e : Enqueued) → Contains entered.now e → e.value ≢ value }
@@ -26,7 +26,7 @@ pub fn entry_of(entered: &Row<Enqueued>, value: i64) -> Option<Enqueued>
     }
 }
 
-// The place behind the enqueue of this value, which has this place if there is one.
+// Returns `at` + 1 if the enqueue at index `at` has this value, and otherwise `at`.
 fn end_of(entered: &Row<Enqueued>, at: usize, value: i64) -> usize
     requires { at ≤ length entered.now }
     ensures { IsEndOf entered.now at value result }
@@ -41,7 +41,7 @@ fn end_of(entered: &Row<Enqueued>, at: usize, value: i64) -> usize
     }
 }
 
-/// The enqueues with this one, which replaces the one of the same value, if there is one. O(log n).
+/// Returns the enqueues with `entry`, which replaces an enqueue of the same value. Costs O(log n).
 pub fn with_entry(
     alloc: Global,
     entered: &Row<Enqueued>,
@@ -57,7 +57,7 @@ pub fn with_entry(
     Ok(row)
 }
 
-/// The enqueues of other values. O(log n).
+/// Returns the enqueues of other values. Costs O(log n).
 pub fn without_entry(
     alloc: Global,
     entered: &Row<Enqueued>,

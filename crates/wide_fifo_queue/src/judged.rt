@@ -1,4 +1,4 @@
-//! Queues that are judged live.
+//! The judge of a FIFO queue's history, event by event.
 ghost use Rattle.std.specs.Prelude.{◌≡◌, [], true, false, IfOk, IsTrue};
 ghost use Rattle.std.specs.List.{Contains};
 ghost use Rattle.wide_fifo_queue.specs.declared.known.Enqueued.{Enqueued};
@@ -15,25 +15,26 @@ use judging::Step;
 use models::Op;
 use std::alloc::{AllocError, Global};
 
-/// The history of one fifo queue, judged as its events come, while its values differ. It is linearizable exactly if it is paired
-/// (`queue_pairs`): each value that came in before a dequeued one has its own dequeue. The dequeue has answered it, or is open or crashed
-/// and was invoked in time for it. Nothing branches. Once two enqueues that have not failed have one value, an ok is answered Over.
+/// The history of one FIFO queue, judged event by event, as long as its values differ. It is linearizable if and only if it is paired
+/// (`queue_pairs`). Then each value that was enqueued before a dequeued one has a dequeue of its own. This dequeue has answered the value,
+/// or it is open or crashed and was invoked in time. There are no alternatives to try. If two enqueues of the same value have not failed,
+/// an ok is answered Over.
 ///
-/// An event can be prepared and then committed. `prepare` may run out of memory, and changes nothing until `commit`, which takes no
-/// memory. A second `prepare` replaces the first.
+/// An event is first prepared and then committed. `prepare` may run out of memory, and changes nothing until `commit`, which does not
+/// allocate. A second `prepare` replaces the first one.
 ///
-/// Values are kept in rows that copies share, so a copy of a queue with many values costs no more than one with few.
+/// Copies share the rows with the values. So a copy of a queue with many values costs as much as one with few values.
 #[derive(Drop)]
 pub struct WideFifoQueue {
-    /// The key's budget, which says nothing here: equal values exceed each.
+    /// The key's budget, which has no effect here: equal values exceed every budget.
     budget: u32,
     /// The known facts of the history, if it is linearizable.
     known: Option<Known>,
-    /// What is prepared.
+    /// The prepared facts.
     next: Option<Option<Known>>,
 }
 
-// The same facts, if there are any.
+// Returns equal facts, if there are any.
 fn copied(known: &Option<Known>) -> Result<Option<Known>, AllocError>
     ensures { IfOk result (IsSameKnown known.now) }
 {
@@ -43,14 +44,14 @@ fn copied(known: &Option<Known>) -> Result<Option<Known>, AllocError>
     }
 }
 
-// Whether an event of this kind is an ok.
+// Returns whether an event of this kind is an ok.
 fn is_ok(kind: EventKind) -> bool
     ensures { result ≡ is_an_ok kind }
 {
     matches!(kind, EventKind::Ok)
 }
 
-// Whether the event is an ok, and two enqueues that have not failed have one value.
+// Returns whether the event is an ok and two enqueues of the same value have not failed.
 fn is_over(known: &Known, kind: EventKind) -> bool
     ensures over { result ≡ true → IsTrue (is_an_ok kind)
         × ((e : Enqueued) × Contains (facts_of known.now).late e) }
@@ -62,7 +63,7 @@ fn is_over(known: &Known, kind: EventKind) -> bool
     false
 }
 
-// The answer of an event after which this is known.
+// Returns the answer of an event after which these facts are known.
 fn step_of(next: &Option<Known>) -> Step
     ensures { result ≡ step_by next.now }
 {
@@ -72,7 +73,7 @@ fn step_of(next: &Option<Known>) -> Step
     }
 }
 
-// The answer of an event of a history that was not linearizable before it.
+// Returns the answer of an event, if the history was not linearizable before it.
 fn dead_step(kind: EventKind) -> Step
     ensures { result ≡ step_of_dead (kills kind) }
 {
@@ -84,7 +85,7 @@ fn dead_step(kind: EventKind) -> Step
 }
 
 impl WideFifoQueue {
-    /// A history without events. Takes constant time, and no memory.
+    /// Returns the judge of a history without events. Takes constant time, and does not allocate.
     pub fn start(alloc: Global, budget: u32) -> WideFifoQueue
         ensures { IsStart budget (view_of result) }
     {
@@ -95,7 +96,7 @@ impl WideFifoQueue {
         }
     }
 
-    /// The same queue, with nothing prepared. It shares the values. O(open operations, crashed dequeues).
+    /// Returns an equal queue with nothing prepared. It shares the values. Costs O(open operations + crashed dequeues).
     pub fn copy(&self) -> Result<WideFifoQueue, AllocError>
         ensures { IfOk result (λ queue. IsCopy (view_of self.now) (view_of queue)) }
     {
@@ -107,12 +108,12 @@ impl WideFifoQueue {
         })
     }
 
-    /// Prepares an event of an operation, and gives its answer. The id is the index of the operation's invocation: new for an invocation,
-    /// else that of an open operation. The part of an ok is the answer. Over if the event is an ok and two enqueues that have not failed
-    /// have one value: then nothing is prepared. An invocation and an info are answered Alive, since they kill nothing. The history stays
-    /// the same until [`commit`](Self::commit). After `AllocError` no commit must follow. Another prepared event is dropped. O(open
-    /// operations, crashed dequeues, log n in the values), and O(log n) for each value whose enqueue was concurrent with the dequeued
-    /// one's.
+    /// Prepares an event of an operation, and returns its answer. `id` is the index of the operation's invocation: a new one for an
+    /// invocation, and otherwise that of an open operation. The part of an ok is the answer. Returns Over if the event is an ok and two
+    /// enqueues of the same value have not failed; nothing is prepared then. Returns Alive for an invocation and an info, since they never
+    /// make a history illegal. Until [`commit`](Self::commit) the queue represents the same histories. Do not call `commit` after
+    /// `AllocError`. Drops another prepared event. Costs O(open operations + crashed dequeues + log n) for n values. Also costs O(log n)
+    /// for each value whose enqueue was concurrent with that of the dequeued value.
     pub fn prepare(&mut self, id: u32, kind: EventKind, op: &Op) -> Result<Step, AllocError>
         ensures { Prepares (view_of self.old) (view_of self.new) counts_more the_object (mark_by id kind op.now) result }
     {
@@ -129,7 +130,7 @@ impl WideFifoQueue {
         Ok(step)
     }
 
-    /// Carries out the prepared event, if there is one. It takes no memory and cannot fail.
+    /// Carries out the prepared event, if there is one. Does not allocate and cannot fail.
     pub fn commit(&mut self)
         ensures { Commits (view_of self.old) (view_of self.new) }
     {
@@ -138,8 +139,8 @@ impl WideFifoQueue {
         }
     }
 
-    /// An event of an operation: [`prepare`](Self::prepare) and [`commit`](Self::commit) in one. After Over, and on `AllocError`, the
-    /// history stays the same.
+    /// Observes an event of an operation. Does the same as [`prepare`](Self::prepare) and [`commit`](Self::commit). After Over and
+    /// `AllocError` the queue represents the same histories as before.
     pub fn observe(&mut self, id: u32, kind: EventKind, op: &Op) -> Result<Step, AllocError>
         ensures { Observes (view_of self.old) (view_of self.new) counts_more the_object (mark_by id kind op.now) result }
     {
@@ -148,7 +149,7 @@ impl WideFifoQueue {
         Ok(step)
     }
 
-    /// How many steps were made so far: none, since nothing is tried.
+    /// Returns the number of steps so far: 0, since no operation is tried.
     pub fn applied(&self) -> u64
         ensures { result ≡ (view_of self.now).applied }
     {

@@ -1,4 +1,4 @@
-//! The known facts of the history of a queue.
+//! The known facts about the history of a FIFO queue.
 ghost use Rattle.std.specs.Prelude.{◌≡◌, IfOk};
 ghost use Rattle.wide_fifo_queue.specs.Facts.{call_by, facts_of, later, no_facts};
 
@@ -9,9 +9,9 @@ use std::alloc::{AllocError, Global};
 /// A call of a queue.
 #[derive(Clone, Copy, Debug, PartialEq, Eq)]
 pub enum Call {
-    /// It puts the value in.
+    /// The call inserts this value.
     Enqueue(i64),
-    /// It takes a value out.
+    /// The call removes a value.
     Dequeue,
     /// A queue has no such operation.
     Other,
@@ -25,8 +25,8 @@ pub struct Pending {
     pub since: u64,
 }
 
-/// An enqueue that has not failed: its value, its id, the number of marks before its invocation, and, if the value was dequeued, before the
-/// return of that dequeue.
+/// An enqueue that has not failed: its value, its id, and the number of marks before its invocation. If its value was dequeued, also the
+/// number of marks before the return of this dequeue.
 #[derive(Clone, Copy)]
 pub struct Enqueued {
     pub value: i64,
@@ -35,15 +35,15 @@ pub struct Enqueued {
     pub taken: Option<u64>,
 }
 
-/// A value whose enqueue is done, and which was not dequeued, with the number of marks before the return of the enqueue.
+/// A value whose enqueue has returned and that was not dequeued, with the number of marks before the return of the enqueue.
 #[derive(Clone, Copy)]
 pub struct Waiting {
     pub value: i64,
     pub by: u64,
 }
 
-/// The same of a value that was enqueued before a dequeued one, with the number of marks before the first return of a dequeue of such a
-/// value.
+/// A value whose enqueue has returned and that was not dequeued, although a later value was. It has the number of marks before the first
+/// return of a dequeue of such a later value.
 #[derive(Clone, Copy)]
 pub struct Owed {
     pub value: i64,
@@ -57,19 +57,19 @@ pub struct Known {
     pub alloc: Global,
     pub moment: u64,
     pub pending: Vec<Pending>,
-    /// For each value that has an enqueue which has not failed one such, by value.
+    /// One enqueue that has not failed for each value that has one, ordered by value.
     pub entered: Row<Enqueued>,
     /// The other enqueues that have not failed.
     pub late: Vec<Enqueued>,
-    /// The values that wait, and are not owed, by the return of their enqueue.
+    /// The values that wait and are not owed, ordered by the return of their enqueue.
     pub waiting: Row<Waiting>,
-    /// The owed ones, by deadline.
+    /// The owed values, ordered by deadline.
     pub owed: Vec<Owed>,
     /// The number of marks before the invocation of each dequeue that is open or has crashed.
     pub takers: Vec<u64>,
 }
 
-/// An enqueue's place is its value.
+/// The place of an enqueue is its value.
 impl Placed for Enqueued {
     ghost place = { λ entry. entry.value };
 
@@ -85,7 +85,7 @@ impl Placed for Enqueued {
     }
 }
 
-/// The call of an operation of this name and part. O(1).
+/// Returns the call of an operation with this name and part. Costs O(1).
 pub fn call_of(name: Name, part: &Part) -> Call
     ensures { result ≡ call_by name part.now }
 {
@@ -97,7 +97,7 @@ pub fn call_of(name: Name, part: &Part) -> Call
 }
 
 impl Known {
-    /// The facts of a history without events. O(1), and no memory.
+    /// Returns the facts of a history without events. Costs O(1), and does not allocate.
     pub fn new(alloc: Global) -> Known
         ensures { facts_of result ≡ no_facts }
     {
@@ -113,7 +113,7 @@ impl Known {
         }
     }
 
-    // The same facts except for the moment and the open operations.
+    // Returns the facts with another moment and other open operations.
     fn at(&self, moment: u64, pending: Vec<Pending>) -> Result<Known, AllocError>
         ensures { IfOk result (λ known. facts_of known
             ≡ record (facts_of self.now) { now = moment; pending = pending.items }) }
@@ -130,7 +130,7 @@ impl Known {
         })
     }
 
-    /// The same facts. O(open operations, crashed dequeues): values are shared.
+    /// Returns equal facts. Costs O(open operations + crashed dequeues): the values are shared.
     pub fn copy(&self) -> Result<Known, AllocError>
         ensures { IfOk result (λ known. facts_of known ≡ facts_of self.now) }
     {
@@ -138,7 +138,7 @@ impl Known {
         self.at(self.moment, pending)
     }
 
-    /// The facts with one more mark, after which these operations are open. Likewise.
+    /// Returns the facts after one more mark, with `pending` as the open operations. Costs O(open operations + crashed dequeues).
     pub fn later(&self, pending: Vec<Pending>) -> Result<Known, AllocError>
         ensures { IfOk result (λ known. facts_of known ≡ later pending.items (facts_of self.now)) }
     {

@@ -1,7 +1,7 @@
-//! Judges fifo queues live, by the dequeued values: a history of a queue whose values differ is linearizable exactly if it is paired
-//! (`queue_pairs`). The order of enqueues that overlap is never chosen, so an event costs no more for many clients.
+//! The judge of FIFO queues, event by event, by the dequeued values. A history of a queue whose values differ is linearizable if and only
+//! if it is paired (`queue_pairs`). The order of concurrent enqueues is never chosen, so an event does not cost more for many clients.
 //!
-//! A call takes memory only where its result can be `AllocError`.
+//! A call allocates only if its result can be `AllocError`.
 #![tactic(auto)]
 
 mod entries;

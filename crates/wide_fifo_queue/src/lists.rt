@@ -10,7 +10,7 @@ ghost use Rattle.wide_fifo_queue.specs.Facts.{IsServed, is_other, is_other_enque
 use crate::known::{Enqueued, Owed, Pending};
 use std::alloc::{AllocError, Global};
 
-/// The open operation with this id, if there is one. O(open operations).
+/// Returns the open operation `id`, if there is one. Costs O(open operations).
 pub fn pending_of(pending: &[Pending], id: u32) -> Option<Pending>
     ensures found { IfSome result (λ p. Contains pending.now p × (p.id ≡ id)) }
     ensures none { result ≡ None → (p : Pending) → Contains pending.now p → p.id ≢ id }
@@ -23,7 +23,7 @@ pub fn pending_of(pending: &[Pending], id: u32) -> Option<Pending>
     None
 }
 
-/// The open operations with one more. O(open operations).
+/// Returns the open operations with `call` appended. Costs O(open operations).
 pub fn with_call(
     alloc: Global,
     pending: &[Pending],
@@ -36,7 +36,7 @@ pub fn with_call(
     Ok(calls)
 }
 
-/// The open operations but this. O(open operations).
+/// Returns the open operations without operation `id`. Costs O(open operations).
 pub fn without_call(alloc: Global, pending: &[Pending], id: u32) -> Result<Vec<Pending>, AllocError>
     ensures { IfOk result (λ calls. calls.items ≡ filter (is_other id) pending.now) }
 {
@@ -45,7 +45,7 @@ pub fn without_call(alloc: Global, pending: &[Pending], id: u32) -> Result<Vec<P
     Ok(calls)
 }
 
-/// The moments but this. O(moments).
+/// Returns the moments without `moment`. Costs O(moments).
 pub fn without_moment(alloc: Global, moments: &[u64], moment: u64) -> Result<Vec<u64>, AllocError>
     ensures { IfOk result (λ others. others.items ≡ filter (is_other_moment moment) moments.now) }
 {
@@ -54,7 +54,7 @@ pub fn without_moment(alloc: Global, moments: &[u64], moment: u64) -> Result<Vec
     Ok(others)
 }
 
-/// The owed values but this. O(owed values).
+/// Returns the owed values without `value`. Costs O(owed values).
 pub fn without_owed(alloc: Global, owed: &[Owed], value: i64) -> Result<Vec<Owed>, AllocError>
     ensures { IfOk result (λ others. others.items ≡ filter (is_other_value value) owed.now) }
 {
@@ -63,7 +63,7 @@ pub fn without_owed(alloc: Global, owed: &[Owed], value: i64) -> Result<Vec<Owed
     Ok(others)
 }
 
-/// The enqueues but this. O(enqueues).
+/// Returns the enqueues without enqueue `id`. Costs O(enqueues).
 pub fn without_enqueue(
     alloc: Global,
     late: &[Enqueued],
@@ -76,7 +76,7 @@ pub fn without_enqueue(
     Ok(others)
 }
 
-/// The value as an owed one, if it is owed. O(owed values).
+/// Returns the owed entry of the value, if the value is owed. Costs O(owed values).
 pub fn owed_of(owed: &[Owed], value: i64) -> Option<Owed>
     ensures { IsDueOf owed.now value result }
 {
@@ -88,7 +88,7 @@ pub fn owed_of(owed: &[Owed], value: i64) -> Option<Owed>
     None
 }
 
-/// Whether the moment is at most the deadline, if there is one. O(1).
+/// Returns whether the moment is at most the deadline. Without a deadline every moment is. Costs O(1).
 pub fn is_in_time(moment: u64, due: &Option<Owed>) -> bool
     ensures { IsTrue result ↔ IsInTime moment due.now }
 {
@@ -98,7 +98,7 @@ pub fn is_in_time(moment: u64, due: &Option<Owed>) -> bool
     }
 }
 
-/// The first of these enqueues that has the value. O(enqueues).
+/// Returns the first enqueue of the value, if there is one. Costs O(enqueues).
 pub fn first_of(late: &[Enqueued], value: i64) -> Option<Enqueued>
     ensures found { IfSome result (λ e. Contains late.now e × (e.value ≡ value)) }
     ensures none { result ≡ None → (e : Enqueued) → Contains late.now e → e.value ≢ value }
@@ -111,7 +111,7 @@ pub fn first_of(late: &[Enqueued], value: i64) -> Option<Enqueued>
     None
 }
 
-/// One of these enqueues, if there is any. O(1).
+/// Returns one of the enqueues, if there is one. Costs O(1).
 pub fn some_of(late: &[Enqueued]) -> Option<Enqueued>
     ensures found { IfSome result (λ e. Contains late.now e) }
     ensures none { result ≡ None → late.now ≡ [] }
@@ -122,8 +122,8 @@ pub fn some_of(late: &[Enqueued]) -> Option<Enqueued>
     Some(late[0])
 }
 
-/// Whether each owed value can have a dequeue of its own that was invoked by its deadline: the first the first one, and so on. Both are
-/// in order. O(owed values).
+/// Returns whether each owed value can have a dequeue of its own that was invoked by its deadline. Both lists are ordered, so the first
+/// value is compared with the first dequeue, and so on. Costs O(owed values).
 pub fn is_served(takers: &[u64], owed: &[Owed]) -> bool
     ensures { IsTrue result ↔ IsServed takers.now owed.now }
 {

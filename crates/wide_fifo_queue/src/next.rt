@@ -26,7 +26,7 @@ use models::{Op, Part};
 use persistent::Row;
 use std::alloc::AllocError;
 
-// Whether the value was dequeued.
+// Returns whether the value was dequeued.
 fn is_taken(entry: &Enqueued) -> bool
     ensures taken { result ≡ true → (n : ℕ) × (entry.now.taken ≡ Some n) }
     ensures stays { result ≡ false → entry.now.taken ≡ None }
@@ -38,7 +38,7 @@ fn is_taken(entry: &Enqueued) -> bool
 }
 
 impl Known {
-    /// Whether two enqueues that have not failed have one value. O(1).
+    /// Returns whether two enqueues of the same value have not failed. Costs O(1).
     pub fn has_twins(&self) -> bool
         ensures none { result ≡ false → self.now.late.items ≡ [] }
         ensures some { result ≡ true → (e : Enqueued) × Contains self.now.late.items e }
@@ -49,7 +49,7 @@ impl Known {
         }
     }
 
-    // After the invocation of an enqueue.
+    // Returns the facts after the invocation of an enqueue.
     fn after_enqueue(&self, call: Pending, value: i64) -> Result<Known, AllocError>
         requires call { call.call ≡ calls.Enqueue value }
         requires since { call.since ≡ self.now.moment }
@@ -73,7 +73,7 @@ impl Known {
         Ok(known)
     }
 
-    // After the invocation of a dequeue.
+    // Returns the facts after the invocation of a dequeue.
     fn after_dequeue(&self, call: Pending) -> Result<Known, AllocError>
         requires call { call.call ≡ calls.Dequeue }
         requires since { call.since ≡ self.now.moment }
@@ -86,7 +86,7 @@ impl Known {
         Ok(known)
     }
 
-    // After an invocation.
+    // Returns the facts after an invocation.
     fn after_invoke(&self, id: u32, op: &Op) -> Result<Known, AllocError>
         ensures { IfOk result (LivesAfter (facts_of self.now) (Invoked id op.now)) }
     {
@@ -112,7 +112,7 @@ impl Known {
         }
     }
 
-    // After the ok of an enqueue.
+    // Returns the facts after the ok of an enqueue.
     fn after_put(&self, call: &Pending, value: i64) -> Result<Known, AllocError>
         requires call { call.now.call ≡ calls.Enqueue value }
         requires pending { Contains self.now.pending.items call.now }
@@ -133,7 +133,7 @@ impl Known {
         Ok(known)
     }
 
-    // The values that wait but this. O(1) for one that is owed.
+    // Returns the waiting values without `value`. Costs O(1) if the value is owed, since owed values do not wait.
     fn waiting_but(&self, value: i64, due: &Option<Owed>) -> Result<Row<Waiting>, AllocError>
         ensures { IfOk result (IsWaitingBut self.now.waiting value due.now) }
     {
@@ -149,7 +149,8 @@ impl Known {
         }
     }
 
-    // After an ok of a dequeue with the value of this enqueue, which was not dequeued before.
+    // Returns the facts after the ok of a dequeue of this enqueue's value, which was not dequeued before. `None` if the history is not
+    // linearizable then.
     fn after_take(
         &self,
         call: &Pending,
@@ -188,7 +189,7 @@ impl Known {
         Ok(Some(known))
     }
 
-    // After an ok of a dequeue with this value.
+    // Returns the facts after the ok of a dequeue with this value. `None` if the history is not linearizable then.
     fn after_answer(&self, call: &Pending, value: i64) -> Result<Option<Known>, AllocError>
         requires call { call.now.call ≡ calls.Dequeue }
         requires pending { Contains self.now.pending.items call.now }
@@ -209,7 +210,7 @@ impl Known {
         Ok(next)
     }
 
-    // After an ok.
+    // Returns the facts after an ok. `None` if the history is not linearizable then.
     fn after_ok(&self, id: u32, part: &Part) -> Result<Option<Known>, AllocError>
         requires { self.now.late.items ≡ [] }
         ensures { IfOk result (IsAfter (facts_of self.now) (Returned id (answer_of part.now))) }
@@ -233,7 +234,7 @@ impl Known {
         }
     }
 
-    // After the fail of another enqueue of a value than the first.
+    // Returns the facts after the fail of an enqueue that is not the first one of its value.
     fn after_late_fail(&self, call: &Pending, first: &Enqueued) -> Result<Known, AllocError>
         requires call { call.now.call ≡ calls.Enqueue first.now.value }
         requires pending { Contains self.now.pending.items call.now }
@@ -248,7 +249,7 @@ impl Known {
         Ok(known)
     }
 
-    // After the fail of the first enqueue of a value that was not dequeued, where there is no other.
+    // Returns the facts after the fail of the only enqueue of a value that was not dequeued.
     fn after_only_fail(&self, call: &Pending, entry: &Enqueued) -> Result<Known, AllocError>
         requires call { call.now.call ≡ calls.Enqueue entry.now.value }
         requires pending { Contains self.now.pending.items call.now }
@@ -265,7 +266,8 @@ impl Known {
         Ok(known)
     }
 
-    // The same where there is another, which is the first one now.
+    // Returns the facts after the fail of the first enqueue of a value. `next` is another enqueue of the value, which becomes the first
+    // one.
     fn after_first_fail(
         &self,
         call: &Pending,
@@ -290,7 +292,7 @@ impl Known {
         Ok(known)
     }
 
-    // After the fail of an enqueue.
+    // Returns the facts after the fail of an enqueue. `None` if the history is not linearizable then.
     fn after_lost(&self, call: &Pending, value: i64) -> Result<Option<Known>, AllocError>
         requires call { call.now.call ≡ calls.Enqueue value }
         requires pending { Contains self.now.pending.items call.now }
@@ -314,7 +316,7 @@ impl Known {
         Ok(Some(known))
     }
 
-    // After the fail of a dequeue.
+    // Returns the facts after the fail of a dequeue. `None` if the history is not linearizable then.
     fn after_no_take(&self, call: &Pending) -> Result<Option<Known>, AllocError>
         requires call { call.now.call ≡ calls.Dequeue }
         requires pending { Contains self.now.pending.items call.now }
@@ -330,7 +332,7 @@ impl Known {
         Ok(Some(known))
     }
 
-    // After a fail.
+    // Returns the facts after a fail. `None` if the history is not linearizable then.
     fn after_fail(&self, id: u32) -> Result<Option<Known>, AllocError>
         ensures { IfOk result (IsAfter (facts_of self.now) (Failed id)) }
     {
@@ -354,7 +356,7 @@ impl Known {
         }
     }
 
-    // After an info.
+    // Returns the facts after an info.
     fn after_info(&self, id: u32) -> Result<Known, AllocError>
         ensures { IfOk result (LivesAfter (facts_of self.now) (Crashed id)) }
     {
@@ -363,8 +365,8 @@ impl Known {
         Ok(known)
     }
 
-    /// The known facts after an event of the operation with this id, if the history is still linearizable. The part of an ok is the answer.
-    /// O(open operations, crashed dequeues), and O(log n) for each value that is owed from now on.
+    /// Returns the facts after an event of operation `id`. `None` if the history is not linearizable then. The part of an ok is the answer.
+    /// Costs O(open operations + crashed dequeues), and O(log n) for each value that becomes owed.
     pub fn after_event(
         &self,
         id: u32,

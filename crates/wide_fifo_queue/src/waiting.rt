@@ -1,4 +1,4 @@
-//! Values that wait, by the return of their enqueue.
+//! The waiting values, ordered by the return of their enqueue.
 ghost use Rattle.std.specs.Prelude.{◌≡◌, ◌<◌, ◌≤◌, [], ◌∷◌, ◌++◌, IfOk, OnOk, length, take, drop, get_or, map};
 ghost use Rattle.std.specs.List.{Contains};
 ghost use Rattle.wide_fifo_queue.specs.declared.known.Waiting.{Waiting};
@@ -9,7 +9,7 @@ use crate::known::{Owed, Waiting};
 use persistent::Row;
 use std::alloc::{AllocError, Global};
 
-/// The values with one more behind them. O(log n).
+/// Returns the waiting values with `value` appended. Costs O(log n).
 pub fn with_waiting(
     alloc: Global,
     waiting: &Row<Waiting>,
@@ -20,7 +20,8 @@ pub fn with_waiting(
     waiting.with(alloc, waiting.len(), value)
 }
 
-/// The values but the first of this value. O(log n) for each that came in before it: those came in while it did, or are owed from now on.
+/// Returns the waiting values without the first entry of `value`. Costs O(log n) for each entry before it. These are values whose enqueues
+/// returned while that of `value` was open, or values that become owed.
 pub fn without_waiting(
     alloc: Global,
     waiting: &Row<Waiting>,
@@ -37,7 +38,7 @@ pub fn without_waiting(
     Ok(row)
 }
 
-/// How many of the values came in before this moment. O(log n) for each.
+/// Returns how many values at the beginning of `waiting` have a moment before `since`. Costs O(log n) for each of them.
 pub fn passed(waiting: &Row<Waiting>, since: u64) -> usize
     ensures within { result ≤ length waiting.now }
     ensures before { (w : Waiting) → Contains (take result waiting.now) w → w.by < since }
@@ -50,7 +51,7 @@ pub fn passed(waiting: &Row<Waiting>, since: u64) -> usize
     at
 }
 
-/// Puts the first values behind the owed ones, with this deadline. O(log n) for each.
+/// Appends the first `many` waiting values to `owed`, with this deadline. Costs O(log n) for each of them.
 pub fn put_owed(
     owed: &mut Vec<Owed>,
     waiting: &Row<Waiting>,
@@ -71,7 +72,7 @@ pub fn put_owed(
     Ok(())
 }
 
-/// The values without the first ones. O(log n) for each of those.
+/// Returns the waiting values without the first `many`. Costs O(log n) for each of these.
 pub fn without_passed(
     alloc: Global,
     waiting: &Row<Waiting>,

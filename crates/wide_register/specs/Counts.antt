@@ -7,13 +7,13 @@ use Rattle.wide_register.specs.declared.next.Effect.TheVariants.{EndsWrite, Ends
 use Rattle.wide_register.specs.declared.kept.Kept.{Kept}
 use Rattle.wide_register.specs.Facts.{IsEffect}
 
--- this many operations are tried at each row: the write of the effect, or the writes of the value that was read
+-- n operations are tried at each row: the write of the effect, or the writes of the value that was read
 abbrev pub AreTries : List Call → Effect → ℕ → Type 0
 AreTries calls (EndsWrite w v) n = n ≡ 1
 AreTries calls (EndsRead r v) n = n ≤ length calls
 AreTries calls _ n = n ≡ 0
 
--- the count of steps before a mark and after it
+-- the counts of steps before and after a mark
 pub record IsCounted (k : Kept) (m : Mark) (before after : ℕ) : Type 0 where
   pub effect : Effect
   pub is_effect : IsEffect k.calls.items m effect

@@ -1,4 +1,4 @@
--- Invariant: the lean ends of the history of a register as rows, where the moment of a mark is how many marks come before it
+-- Invariant: the lean ends of the history of a register as rows. The moment of a mark is the number of marks before it
 use Rattle.std.specs.Prelude.{◌≡◌, ◌≢◌, ◌↔◌, ℕ, ◌+◌, ◌<◌, ◌≤◌, ℤ, ◌⊎◌, Bool, true, false, not, nat_eq, nat_lt, ◌&&◌, ◌||◌, Option, Some, None, List, [], ◌∷◌, ◌++◌, length, map}
 use Rattle.std.specs.List.{AllZip, Contains, list_any, filter}
 use Rattle.std.specs.Ordering.{int_eq}
@@ -40,7 +40,7 @@ is_read (Writes v) = false
 abbrev pub HasDoor : Row → Call → Type 0
 HasDoor row c = (c.since < row.door) × (¬ Contains row.needed.items c.id)
 
--- the row of the end of no operation
+-- the row of the empty history's end
 pub record IsFirst (row : Row) : Type 0 where
   pub state : row.state ≡ None
   pub needed : row.needed.items ≡ []
@@ -54,65 +54,65 @@ pub record IsSame (row new : Row) : Type 0 where
   pub door : new.door ≡ row.door
   pub passed : new.passed.items ≡ row.passed.items
 
--- the operation is done, or out
+-- the row without the operation, which is no longer open
 pub record IsWithoutId (id : ℕ) (row new : Row) : Type 0 where
   pub state : new.state ≡ row.state
   pub needed : (i : ℕ) → Contains new.needed.items i ↔ (Contains row.needed.items i × (i ≢ id))
   pub door : new.door ≡ row.door
   pub passed : new.passed.items ≡ row.passed.items
 
--- the value stood at a gap that is later than the moment
+-- the register had the value at a gap after moment t
 abbrev pub StoodAfter : List Passed → ℤ → ℕ → Type 0
 StoodAfter passed v t = (p : Passed) × Contains passed p × (p.value ≡ v) × (t < p.gap)
 
--- an open read that was invoked at the moment may find the value in the row: it stood at a later gap, or is the state
+-- an open read that was invoked at moment t may find the value in the row: it is there at a later gap, or it is the state
 abbrev pub CanFind : Row → ℤ → ℕ → Type 0
 CanFind row v t = StoodAfter row.passed.items v t ⊎ (row.state ≡ Some v)
 
--- the value stands among these at as late a gap
+-- the list has the value of p, at the gap of p or a later one
 abbrev pub IsPassedIn : List Passed → Passed → Type 0
 IsPassedIn those p = (q : Passed) × Contains those q × (q.value ≡ p.value) × (p.gap ≤ q.gap)
 
--- the least gap that is later than the same of these moments; 0 if it is later than none
+-- the least gap that is after the same moments of the list; 0 if it is after none of them
 pub record IsLeastGap (moments : List ℕ) (gap least : ℕ) : Type 0 where
   pub most : least ≤ gap
   pub later : (t : ℕ) → Contains moments t → t < gap → t < least
   pub last : (least ≡ 0) ⊎ ((t : ℕ) × Contains moments t × (least ≡ t + 1))
 
--- the same value, at the least gap that is later than the same of these moments
+-- q has the value of p, at the least gap that is after the same moments of the list
 abbrev pub IsCut : List ℕ → Passed → Passed → Type 0
 IsCut moments p q = (q.value ≡ p.value) × IsLeastGap moments p.gap q.gap
 
--- reads that were invoked at these moments may find the same in both rows
+-- reads that were invoked at these moments may find the same values in both rows
 pub record FindTheSame (moments : List ℕ) (row new : Row) : Type 0 where
   pub state : new.state ≡ row.state
   pub needed : new.needed.items ≡ row.needed.items
   pub door : new.door ≡ row.door
   pub finds : (v : ℤ) (t : ℕ) → Contains moments t → CanFind new v t ↔ CanFind row v t
 
--- each gap is the least that is later than the same of these moments, and the state is not told again
+-- each gap is the least one that is after the same moments of the list, and no gap has the value of the state
 abbrev pub HasLeastGaps : List ℕ → Row → Type 0
 HasLeastGaps moments row =
     (p : Passed) → Contains row.passed.items p → (row.state ≢ Some p.value) × ((t : ℕ) × Contains moments t × (p.gap ≡ t + 1))
 
--- when the open reads were invoked
+-- the moments at which the open reads were invoked
 abbrev pub moments_of : List Call → List ℕ
 moments_of calls = map (λ (c : Call). c.since) (filter (λ (c : Call). is_read c.what) calls)
 
--- the write takes place. From then on this value may be found before the gap, and this state is left behind all. The operation that ends by it
--- is out
+-- the write takes place. From then on `value` may be found before the gap, and `state` is the new state. The operation `out` is no longer
+-- open
 pub record IsPut (write : ℕ) (value : Option ℤ) (gap : ℕ) (state : Option ℤ) (out : ℕ) (row new : Row) : Type 0 where
   pub state_is : new.state ≡ state
   pub needed : (i : ℕ) → Contains new.needed.items i ↔ (((i ≡ write) ⊎ Contains row.needed.items i) × (i ≢ out))
   pub door : new.door ≡ gap
   pub passed : (v : ℤ) (t : ℕ) → StoodAfter new.passed.items v t ↔ (StoodAfter row.passed.items v t ⊎ ((value ≡ Some v) × (t < gap)))
 
--- the operation may still take place in the history, and does this
+-- the operation may still take place in the history, and has the effect `what`
 abbrev pub IsCall : List Mark → ℕ → What → Type 0
 IsCall marks id Reads = MayRead marks id
 IsCall marks id (Writes v) = MayWrite marks id v
 
--- the operations that may still take place, each once
+-- `calls` has the operations that may still take place, each once
 pub record AreCalls (calls : List Call) (marks : List Mark) : Type 0 where
   pub once : Pairwise (λ a b. a.id ≢ b.id) calls
   pub since : (c : Call) → Contains calls c → c.since < length marks
@@ -125,7 +125,7 @@ abbrev pub is_state : Option ℤ → ℤ → Bool
 is_state None v = false
 is_state (Some w) v = int_eq w v
 
--- the same of a row as can be computed
+-- `CanFind` as a computed test
 abbrev pub can_find : Row → ℤ → ℕ → Bool
 can_find row v t = list_any (λ (p : Passed). int_eq p.value v && nat_lt t p.gap) row.passed.items || is_state row.state v
 
@@ -139,28 +139,28 @@ end_of calls row = record {
   finds = λ r v. list_any (λ (c : Call). (nat_eq c.id r && is_read c.what) && can_find row v c.since) calls;
 }
 
--- if the operation is open and the row needs it, the other row needs it. If the row's door is open to it, so is the door of the other row
+-- if the operation is open and the row needs it, so does the other row. If the row's door is open to it, so is that of the other row
 pub record FitsAt (row other : Row) (c : Call) : Type 0 where
   pub needed : Contains row.needed.items c.id → c.is_open ≡ true → Contains other.needed.items c.id
   pub door : HasDoor row c → c.since < other.door
 
--- the other row may become all that this one may
+-- the other row allows all that the row allows
 pub record IsAtMostBy (calls : List Call) (row other : Row) : Type 0 where
   pub state : row.state ≡ other.state
   pub needed : (i : ℕ) → Contains other.needed.items i → Contains row.needed.items i
   pub passed : (p : Passed) → Contains row.passed.items p → IsPassedIn other.passed.items p
   pub fits : (c : Call) → Contains calls c → FitsAt row other c
 
--- the row is at most one of these
+-- the row is at most one of these rows
 abbrev pub IsKeptIn : List Call → List Row → Row → Type 0
 IsKeptIn calls rows row = (q : Row) × Contains rows q × IsAtMostBy calls row q
 
--- none is at most another one
+-- no row is at most another one
 abbrev pub AreApart : List Call → List Row → Type 0
 AreApart calls rows =
     Pairwise (λ a b. (¬ IsAtMostBy calls a b) × (¬ IsAtMostBy calls b a)) rows
 
--- what is kept is that of the history
+-- the facts are those of the history
 pub record AreFacts (k : Kept) (marks : List Mark) : Type 0 where
   pub well : AreWellFormed marks
   pub now : k.moment ≡ length marks
@@ -170,13 +170,13 @@ pub record AreFacts (k : Kept) (marks : List Mark) : Type 0 where
   pub apart : AreApart k.calls.items k.rows.items
   pub ends : AreLeanEnds marks (map (end_of k.calls.items) k.rows.items)
 
--- those that are at most the row are left out
+-- the rows without those that are at most `row`
 pub record AreLeftOut (calls : List Call) (row : Row) (rows left : List Row) : Type 0 where
   pub each : (r : Row) → Contains left r → Contains rows r × (¬ IsAtMostBy calls r row)
   pub others : (r : Row) → Contains rows r → Contains left r ⊎ IsAtMostBy calls r row
   pub apart : AreApart calls rows → AreApart calls left
 
--- the operation is open
+-- an open operation has this id
 abbrev pub IsOpenIn : List Call → ℕ → Type 0
 IsOpenIn calls id = (c : Call) × Contains calls c × (c.id ≡ id) × (c.is_open ≡ true)
 
@@ -186,17 +186,17 @@ pub record AreHalves (id : ℕ) (rows : List Row) (halves : Halves) : Type 0 whe
   pub without : (r : Row) → Contains halves.without.items r → Contains rows r × (¬ Contains r.needed.items id)
   pub all : (r : Row) → Contains rows r → Contains halves.with.items r ⊎ Contains halves.without.items r
 
--- a write of the value that did not take place yet
+-- a write of the value that has not taken place
 abbrev pub IsFree : Row → ℤ → Call → Type 0
 IsFree row v c = (c.what ≡ Writes v) × (¬ Contains row.needed.items c.id)
 
--- the write takes place behind all others, or if it may, just before the last write
+-- the write takes place after all others, or just before the last write if it may
 abbrev pub IsPutOf : ℕ → Call → ℤ → ℕ → Type 0 → Row → Row → Type 0
 IsPutOf now w v out before row new =
     IsPut w.id row.state now (Some v) out row new
     ⊎ (before × IsPut w.id (Some v) row.door row.state out row new)
 
--- one of these rows is so
+-- one of these rows satisfies P
 abbrev pub Has : List Row → (Row → Type 0) → Type 0
 Has made P = (new : Row) × Contains made new × P new
 
@@ -205,7 +205,7 @@ HasPuts now w v out before row made =
     Has made (IsPut w.id row.state now (Some v) out row)
     × (before → Has made (IsPut w.id (Some v) row.door row.state out row))
 
--- the write is done: it took place already, or takes place now
+-- the write has returned: it took place already, or takes place now
 abbrev pub IsWritten : ℕ → Call → ℤ → Row → Row → Type 0
 IsWritten now w v row new =
     (Contains row.needed.items w.id × IsWithoutId w.id row new)
@@ -216,7 +216,7 @@ HasWritten now w v row made =
     (Contains row.needed.items w.id → Has made (IsWithoutId w.id row))
     × ((¬ Contains row.needed.items w.id) → HasPuts now w v w.id (HasDoor row w) row made)
 
--- the effect of the effect on the row
+-- the row after the effect
 abbrev pub IsNextBy : List Call → ℕ → Effect → Row → Row → Type 0
 IsNextBy calls now Keeps row new = IsSame row new
 IsNextBy calls now (Leaves id) row new = IsWithoutId id row new
@@ -228,7 +228,7 @@ IsNextBy calls now (EndsRead r v) row new =
     × ((c : Call) × Contains calls c × IsFree row v c × IsPutOf now c v r.id (HasDoor row r × HasDoor row c) row new))
 IsNextBy calls now Dies row new = ⊥
 
--- all that the effect makes of the row is among these
+-- all rows that the effect makes of the row are in the list
 abbrev pub HasNextBy : List Call → ℕ → Effect → Row → List Row → Type 0
 HasNextBy calls now Keeps row made = Has made (IsSame row)
 HasNextBy calls now (Leaves id) row made = Has made (IsWithoutId id row)
@@ -241,18 +241,18 @@ HasNextBy calls now (EndsRead r v) row made =
     → HasPuts now c v r.id (HasDoor row r × HasDoor row c) row made)
 HasNextBy calls now Dies row made = Unit {0}
 
--- the operation with this id may still take place, and does this
+-- c is the operation with this id, which may still take place, and has the effect `what`
 abbrev pub HasCall : List Call → ℕ → What → Call → Type 0
 HasCall calls id what c = Contains calls c × (c.id ≡ id) × (c.what ≡ what)
 
--- the effect is that of the read with this answer
+-- the effect of this answer to a read
 abbrev pub IsEffectOfAnswer : Call → Answer → Effect → Type 0
 IsEffectOfAnswer read answer effect =
     ((answer ≡ Nothing) × (effect ≡ Leaves read.id))
     ⊎ ((v : ℤ) × (answer ≡ Number v) × (effect ≡ EndsRead read v))
     ⊎ ((effect ≡ Dies) × (answer ≢ Nothing) × ((v : ℤ) → answer ≢ Number v))
 
--- the effect is that of the mark
+-- the effect of the mark
 abbrev pub IsEffect : List Call → Mark → Effect → Type 0
 IsEffect calls (Invoked id op) effect = effect ≡ Keeps
 IsEffect calls (Returned id answer) effect =
@@ -266,11 +266,11 @@ IsEffect calls (Crashed id) effect =
     ((c : Call) × HasCall calls id Reads c × (effect ≡ Leaves id))
     ⊎ ((((c : Call) → Contains calls c → c.id ≢ id) ⊎ ((c : Call) × (v : ℤ) × HasCall calls id (Writes v) c)) × (effect ≡ Keeps))
 
--- the operations but this one
+-- the operation has another id
 abbrev pub is_other : ℕ → Call → Bool
 is_other id c = not (nat_eq c.id id)
 
--- an operation that is invoked at this moment
+-- the operations and, if it has an effect, an operation that is invoked now
 abbrev pub calls_with : List Call → ℕ → ℕ → Option What → List Call
 calls_with calls now id None = calls
 calls_with calls now id (Some what) = calls ++ record { id = id; what = what; since = now; is_open = true } ∷ []
@@ -288,19 +288,19 @@ calls_after calls now (Returned id answer) = filter (is_other id) calls
 calls_after calls now (Failed id) = filter (is_other id) calls
 calls_after calls now (Crashed id) = map (crashed id) (filter (outlives id) calls)
 
--- the effect makes the row of one of these, as far as reads that were invoked at these moments may tell
+-- the effect makes the row of a kept row, except that only reads of these moments need find the same
 abbrev pub IsMadeOf : Kept → List ℕ → Effect → Row → Type 0
 IsMadeOf k moments effect r =
     (row : Row) × Contains k.rows.items row × (made : Row) × IsNextBy k.calls.items k.moment effect row made
     × FindTheSame moments made r
 
--- of all that the effect makes of these rows, as far as such reads may tell, there is one that is so
+-- P holds of each row that the effect makes of the kept rows, or of a row in which reads of these moments find the same
 abbrev pub AreAllMade : Kept → List ℕ → Effect → (Row → Type 0) → Type 0
 AreAllMade k moments effect P =
     (row : Row) → Contains k.rows.items row → (made : List Row) × HasNextBy k.calls.items k.moment effect row made
     × ((m : Row) → Contains made m → (r : Row) × FindTheSame moments m r × P r)
 
--- the mark makes the second of the first
+-- `new` are the facts after the mark
 pub record IsAfter (m : Mark) (k new : Kept) : Type 0 where
   pub moment : new.moment ≡ k.moment + 1
   pub calls : new.calls.items ≡ calls_after k.calls.items k.moment m
@@ -312,29 +312,29 @@ pub record IsAfter (m : Mark) (k new : Kept) : Type 0 where
   pub gaps : ((row : Row) → Contains k.rows.items row → HasLeastGaps (moments_of k.calls.items) row)
       → (r : Row) → Contains new.rows.items r → HasLeastGaps (moments_of new.calls.items) r
 
--- these are the rows after the effect
+-- the rows after the effect
 pub record AreRowsAfter (k : Kept) (later : List Call) (effect : Effect) (rows : List Row) : Type 0 where
   pub each : (r : Row) → Contains rows r → IsMadeOf k (moments_of later) effect r
   pub all : AreAllMade k (moments_of later) effect (IsKeptIn later rows)
   pub apart : AreApart later rows
   pub gaps : (r : Row) → Contains rows r → HasLeastGaps (moments_of later) r
 
--- the rows after the mark, or none if they stay as they are
+-- the rows after the mark, or None if they stay
 abbrev pub AreChanged : Mark → Kept → List Call → Option (Vec Row) → Type 0
 AreChanged m k later None =
     IsEffect k.calls.items m Keeps × ((c : Call) → Contains k.calls.items c → Contains later c)
 AreChanged m k later (Some rows) = (effect : Effect) × IsEffect k.calls.items m effect × AreRowsAfter k later effect rows.items
 
--- the rows of a change, or those that stay
+-- the rows of a change, or the old ones if it has none
 abbrev pub rows_of : Option (Vec Row) → Vec Row → Vec Row
 rows_of None rows = rows
 rows_of (Some rows) old = rows
 
--- what is kept once the change is carried out
+-- the facts after the change
 abbrev pub changed : Change → Kept → Kept
 changed c k = record { moment = c.moment; calls = c.calls; rows = rows_of c.rows k.rows }
 
--- the kept facts are the same
+-- the facts are the same
 pub record AreSame (k new : Kept) : Type 0 where
   pub moment : new.moment ≡ k.moment
   pub calls : new.calls.items ≡ k.calls.items

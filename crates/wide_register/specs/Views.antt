@@ -1,4 +1,4 @@
--- Promise: a register that is judged, seen as the histories that it stands for
+-- Promise: a register that is judged, seen as its histories
 use Rattle.std.specs.Prelude.{◌≡◌, ◌⊎◌, Bool, true, false, IsTrue, Option, Some, None, []}
 use Rattle.events.specs.declared.event.EventKind.{EventKind}
 use Rattle.events.specs.declared.event.EventKind.TheVariants.{Invoke, Ok, Fail, Info}
@@ -10,7 +10,7 @@ use Rattle.wide_register.specs.declared.judged.WideRegister.{WideRegister}
 use Rattle.wide_register.specs.Facts.{AreFacts, changed}
 use Rattle.judging.specs.Meaning.{FrontierView}
 
--- an ok and a fail can kill
+-- an ok or a fail can be illegal
 abbrev pub kills : EventKind → Bool
 kills Ok = true
 kills Fail = true
@@ -23,7 +23,7 @@ is_an_ok Fail = false
 is_an_ok Invoke = false
 is_an_ok Info = false
 
--- Dead if an event that can kill leaves no row, else Alive
+-- Dead if no row is left after an ok or a fail, else Alive
 abbrev pub IsStepLeft : Kept → EventKind → Step → Type 0
 IsStepLeft left kind step =
     ((step ≡ Dead) × (left.rows.items ≡ []) × IsTrue (kills kind))

@@ -9,13 +9,13 @@ use models::{Name, Part};
 /// The effect of an operation on a register.
 #[derive(Clone, Copy, Debug, PartialEq, Eq)]
 pub enum What {
-    /// It writes the value.
+    /// The operation writes this value.
     Writes(i64),
-    /// It finds the state.
+    /// The operation finds the state.
     Reads,
 }
 
-/// An operation that may still take place, since it is open or is a write that has crashed. It has its id, its effect, the number of marks
+/// An operation that may still take place: it is open, or it is a write that has crashed. It has its id, its effect, the number of marks
 /// before its invocation, and whether it is open.
 #[derive(Clone, Copy)]
 pub struct Call {
@@ -25,7 +25,7 @@ pub struct Call {
     pub is_open: bool,
 }
 
-/// The effect of an operation of this name and part on a register; none if a register has no such operation. Takes constant time.
+/// Returns the effect of an operation with this name and part, or `None` if a register has no such operation. Takes constant time.
 pub fn what_of(name: Name, part: &Part) -> Option<What>
     ensures { result ≡ what_by name part.now }
 {
@@ -36,7 +36,7 @@ pub fn what_of(name: Name, part: &Part) -> Option<What>
     }
 }
 
-/// The operation with this id that may still take place, if it is one. Costs O(operations).
+/// Returns the operation `id`, if it may still take place. Costs O(operations).
 pub fn call_of(calls: &[Call], id: u32) -> Option<Call>
     ensures found { IfSome result (λ c. Contains calls.now c × (c.id ≡ id)) }
     ensures none { result ≡ None → (c : Call) → Contains calls.now c → c.id ≢ id }

@@ -1,4 +1,5 @@
-//! Among many rows, those that need the same open writes are compared: a row is at most none that needs other open writes.
+//! Comparison of many rows. If a row is at most another row, both need the same open writes. So only rows that need the same open writes
+//! are compared.
 ghost use Rattle.std.specs.Prelude.{◌≡◌, ◌↔◌, ◌⊎◌, true, ℕ, IfOk, OnOk};
 ghost use Rattle.std.specs.List.{Contains};
 ghost use Rattle.wide_register.specs.Facts.{AreApart, AreHalves, IsKeptIn, IsOpenIn};
@@ -9,13 +10,13 @@ use crate::left::keep_all;
 use crate::row::{Row, has_id};
 use std::alloc::{AllocError, Global};
 
-// So many rows are compared with one another.
+// Up to this number of rows, each row is compared with each.
 const FEW: usize = 8;
 
-// So many open writes at most tell rows apart.
+// The maximum number of open writes by which rows are divided.
 const MOST: usize = 48;
 
-// The operation tells rows apart if it is a write that is open.
+// Appends the operation's id if the operation divides rows: it is an open write.
 fn note_open(ids: &mut Vec<u32>, call: &Call) -> Result<(), AllocError>
     ensures { OnOk result ((i : ℕ) → Contains ids.new.items i
         → Contains ids.old.items i ⊎ ((call.now.id ≡ i) × (call.now.is_open ≡ true))) }
@@ -27,7 +28,8 @@ fn note_open(ids: &mut Vec<u32>, call: &Call) -> Result<(), AllocError>
     Ok(())
 }
 
-// The open writes that tell rows apart: at most `MOST`, since a stack holds a call for each. Costs O(operations).
+// Returns the ids of the open writes by which rows are divided. There are at most `MOST`, since the stack holds a call for each of them.
+// Costs O(operations).
 fn tellers(alloc: Global, calls: &[Call]) -> Result<Vec<u32>, AllocError>
     ensures { IfOk result (λ ids. (i : ℕ) → Contains ids.items i → IsOpenIn calls.now i) }
 {
@@ -38,14 +40,14 @@ fn tellers(alloc: Global, calls: &[Call]) -> Result<Vec<u32>, AllocError>
     Ok(ids)
 }
 
-/// The rows that need an operation, and the others.
+/// The rows that need an operation, and the rows that do not.
 #[derive(Drop)]
 pub struct Halves {
     pub with: Vec<Row>,
     pub without: Vec<Row>,
 }
 
-// Puts the row into its half.
+// Adds the row to its half.
 fn place(halves: &mut Halves, row: Row, id: u32) -> Result<(), AllocError>
     ensures with_it { OnOk result ((r : Row) → Contains halves.new.with.items r
         ↔ (Contains halves.old.with.items r ⊎ ((row ≡ r) × Contains row.needed.items id))) }
@@ -62,7 +64,7 @@ fn place(halves: &mut Halves, row: Row, id: u32) -> Result<(), AllocError>
     Ok(())
 }
 
-// Splits the rows by whether they need the operation.
+// Divides the rows into those that need operation `id`, and the others.
 fn split(alloc: Global, mut rows: Vec<Row>, id: u32) -> Result<Halves, AllocError>
     ensures { IfOk result (AreHalves id rows.items) }
 {
@@ -76,7 +78,7 @@ fn split(alloc: Global, mut rows: Vec<Row>, id: u32) -> Result<Halves, AllocErro
     Ok(halves)
 }
 
-// Leaves out those that are at most another one, each compared with each.
+// Removes the rows that are at most another row. Compares each row with each.
 fn gather_few(alloc: Global, calls: &[Call], rows: Vec<Row>) -> Result<Vec<Row>, AllocError>
     ensures each { IfOk result (λ left. (r : Row) → Contains left.items r → Contains rows.items r) }
     ensures kept { IfOk result (λ left. (r : Row) → Contains rows.items r → IsKeptIn calls.now left.items r) }
@@ -87,8 +89,8 @@ fn gather_few(alloc: Global, calls: &[Call], rows: Vec<Row>) -> Result<Vec<Row>,
     Ok(left)
 }
 
-// Leaves out those that are at most another one. The ids, from `at` on, are of open operations. Takes time in proportion to the rows with
-// the ids, and to the pairs of rows that need the same ids.
+// Removes the rows that are at most another row. The ids from index `at` on are of open operations. Costs O(rows * ids), and O(pairs of
+// rows that need the same ids).
 fn gather_by(
     alloc: Global,
     calls: &[Call],
@@ -112,8 +114,7 @@ fn gather_by(
     Ok(left)
 }
 
-/// Leaves out those that are at most another one. Takes time in proportion to the rows with the operations, and to the pairs of rows
-/// that need the same open writes.
+/// Removes the rows that are at most another row. Costs O(rows * operations), and O(pairs of rows that need the same open writes).
 pub fn gather(alloc: Global, calls: &[Call], rows: Vec<Row>) -> Result<Vec<Row>, AllocError>
     ensures each { IfOk result (λ left. (r : Row) → Contains left.items r → Contains rows.items r) }
     ensures kept { IfOk result (λ left. (r : Row) → Contains rows.items r → IsKeptIn calls.now left.items r) }

@@ -1,4 +1,4 @@
-//! Registers that are judged live.
+//! The judge of a register's history, event by event.
 ghost use Rattle.std.specs.Prelude.{◌≡◌, ◌↔◌, ◌<◌, [], IfOk, IsTrue, length};
 ghost use Rattle.kinds.specs.Kinds.{object_of};
 ghost use Rattle.kinds.specs.declared.model_kind.ModelKind.TheVariants.{WideRegister as OfWideRegister};
@@ -16,35 +16,36 @@ use judging::Step;
 use models::Op;
 use std::alloc::{AllocError, Global};
 
-/// The history of one register, judged as its events come, by its lean ends: it is linearizable exactly if it has one (`lean_ends`).
+/// The history of one register, judged event by event, by its lean ends. The history is linearizable if and only if it has a lean end
+/// (`lean_ends`).
 ///
-/// An event can be prepared, which may run out of memory and keeps the meaning of the register, and then committed, which takes no memory.
-/// A change that was prepared before is dropped.
+/// An event is first prepared and then committed. A preparation may run out of memory, and does not change the meaning of the register. A
+/// commit does not allocate. A new preparation replaces a prepared change.
 #[derive(Drop)]
 pub struct WideRegister {
     alloc: Global,
     budget: u32,
     applied: u64,
     kept: Kept,
-    /// What is prepared.
+    /// The prepared change.
     next: Option<Change>,
 }
 
-// Whether an event of this kind is an ok.
+// Returns whether an event of this kind is an ok.
 fn is_ok(kind: EventKind) -> bool
     ensures { result ≡ is_an_ok kind }
 {
     matches!(kind, EventKind::Ok)
 }
 
-// Whether an event of this kind can kill.
+// Returns whether an event of this kind can make the history illegal.
 fn can_kill(kind: EventKind) -> bool
     ensures { result ≡ kills kind }
 {
     matches!(kind, EventKind::Ok | EventKind::Fail)
 }
 
-// Whether no row is left once the change is carried out.
+// Returns whether no row is left after the change.
 fn leaves_none(kept: &Kept, change: &Change) -> bool
     ensures { IsTrue result ↔ ((changed change.now kept.now).rows.items ≡ []) }
 {
@@ -54,7 +55,7 @@ fn leaves_none(kept: &Kept, change: &Change) -> bool
     }
 }
 
-// The answer to an event of this kind with this change.
+// Returns the answer to an event of this kind that makes this change.
 fn step_left(kept: &Kept, change: &Change, kind: EventKind) -> Step
     ensures { IsStepLeft (changed change.now kept.now) kind result }
 {
@@ -66,7 +67,7 @@ fn step_left(kept: &Kept, change: &Change, kind: EventKind) -> Step
 }
 
 impl WideRegister {
-    /// A history without events. The budget is the greatest number of lean ends that an ok may meet. Takes constant time.
+    /// Returns the judge of a history without events. `budget` is the maximum number of lean ends just before an ok. Takes constant time.
     pub fn start(alloc: Global, budget: u32) -> Result<Self, AllocError>
         ensures { IfOk result (λ w. IsStart budget (view_of w)) }
     {
@@ -79,21 +80,21 @@ impl WideRegister {
         })
     }
 
-    /// The greatest number of lean ends that an ok may meet.
+    /// Returns the maximum number of lean ends just before an ok.
     pub fn budget(&self) -> u32
         ensures { result ≡ (view_of self.now).budget }
     {
         self.budget
     }
 
-    /// How many steps were made so far: each tries an operation at a lean end.
+    /// Returns the number of steps so far. Each step tries an operation at a lean end.
     pub fn applied(&self) -> u64
         ensures { result ≡ (view_of self.now).applied }
     {
         self.applied
     }
 
-    // The number of steps after an event.
+    // Returns the number of steps after an event.
     fn counted(&self, id: u32, kind: EventKind, op: &Op) -> u64
         ensures { IsCounted self.now.kept (mark_by_act id id (act_by kind op.now)) self.now.applied result }
     {
@@ -103,19 +104,19 @@ impl WideRegister {
         self.applied.saturating_add(steps)
     }
 
-    // Whether the event is an ok that meets more lean ends than the budget.
+    // Returns whether the event is an ok and the lean ends just before it outnumber the budget.
     fn is_over(&self, kind: EventKind) -> bool
         ensures { IsTrue result ↔ (IsTrue (is_an_ok kind) × (self.now.budget < length self.now.kept.rows.items)) }
     {
         is_ok(kind) && self.kept.rows.len() > self.budget as usize
     }
 
-    /// Prepares an event of an operation, and gives its answer. The id is the index of the operation's invocation: a new one for an
-    /// invocation, else that of an open operation. The part of an ok is the answer. Over if the event is an ok and more lean ends than the
-    /// budget stand just before it: then nothing is prepared. An invocation and an info are answered Alive, since they kill nothing. The
-    /// register stands for the same histories until [`commit`](Self::commit); after `AllocError` no commit must follow. A second `prepare`
-    /// replaces the first. Takes time in proportion to the rows that it makes, each with the operations, and to the pairs of rows that need
-    /// the same open writes; an invocation costs O(operations).
+    /// Prepares an event of an operation, and returns its answer. `id` is the index of the operation's invocation: a new one for an
+    /// invocation, and otherwise that of an open operation. The part of an ok is the answer. Returns Over if the event is an ok and the
+    /// lean ends just before it outnumber the budget; nothing is prepared then. Returns Alive for an invocation and an info, since they
+    /// never make a history illegal. Until [`commit`](Self::commit) the register represents the same histories. Do not call `commit` after
+    /// `AllocError`. A second `prepare` replaces the first one. Costs O(new rows * operations), and O(pairs of rows that need the same open
+    /// writes); an invocation costs O(operations).
     pub fn prepare(&mut self, id: u32, kind: EventKind, op: &Op) -> Result<Step, AllocError>
         ensures { Prepares (view_of self.old) (view_of self.new) (CountsMoreThan OfWideRegister) (object_of OfWideRegister)
             (mark_by id kind op.now) result }
@@ -131,7 +132,7 @@ impl WideRegister {
         Ok(step)
     }
 
-    /// Carries out what is prepared, if anything is. It takes no memory and cannot fail.
+    /// Carries out the prepared change, if there is one. Does not allocate and cannot fail.
     pub fn commit(&mut self)
         ensures { Commits (view_of self.old) (view_of self.new) }
     {
@@ -140,8 +141,8 @@ impl WideRegister {
         }
     }
 
-    /// An event of an operation: [`prepare`](Self::prepare) and [`commit`](Self::commit) in one. After Over, and on `AllocError`, the
-    /// register keeps its meaning.
+    /// Observes an event of an operation. Does the same as [`prepare`](Self::prepare) and [`commit`](Self::commit). After Over and
+    /// `AllocError` the register represents the same histories as before.
     pub fn observe(&mut self, id: u32, kind: EventKind, op: &Op) -> Result<Step, AllocError>
         ensures { Observes (view_of self.old) (view_of self.new) (CountsMoreThan OfWideRegister) (object_of OfWideRegister)
             (mark_by id kind op.now) result }
@@ -151,7 +152,7 @@ impl WideRegister {
         Ok(step)
     }
 
-    /// An equal one; nothing is prepared of it. Costs O(operations + rows).
+    /// Returns an equal register with nothing prepared. Costs O(operations + rows).
     pub fn copy(&self) -> Result<Self, AllocError>
         ensures { IfOk result (λ w. IsCopy (view_of self.now) (view_of w)) }
     {

@@ -1,4 +1,4 @@
-//! The facts that are kept of the history of a register.
+//! The facts about a register's history that its judge stores.
 ghost use Rattle.std.specs.Prelude.{◌≡◌, ◌⊎◌, ◌+◌, [], map, IfOk, OnOk};
 ghost use Rattle.std.specs.List.{Contains, filter};
 ghost use Rattle.events.specs.Events.{act_by, mark_by_act};
@@ -14,7 +14,7 @@ use events::EventKind;
 use models::Op;
 use std::alloc::{AllocError, Global};
 
-/// The kept part of a history: the number of its marks, the operations that may still take place, and the lean ends.
+/// The stored facts of a history: the number of its marks, the operations that may still take place, and the lean ends.
 #[derive(Drop)]
 pub struct Kept {
     pub moment: u64,
@@ -22,7 +22,7 @@ pub struct Kept {
     pub rows: Vec<Row>,
 }
 
-/// The effect of an event on the kept facts: the new rows, unless they stay as they are.
+/// The effect of an event on the stored facts. `rows` has the new rows, or `None` if the rows do not change.
 #[derive(Drop)]
 pub struct Change {
     pub moment: u64,
@@ -30,7 +30,7 @@ pub struct Change {
     pub rows: Option<Vec<Row>>,
 }
 
-// The same operations again.
+// Returns a copy of the operations.
 fn calls_copied(calls: &Vec<Call>) -> Result<Vec<Call>, AllocError>
     ensures { IfOk result (λ made. made.items ≡ calls.now.items) }
 {
@@ -38,7 +38,7 @@ fn calls_copied(calls: &Vec<Call>) -> Result<Vec<Call>, AllocError>
     Ok(made)
 }
 
-// The operations after an invocation.
+// Adds the operation of an invocation, if a register has such an operation.
 fn call_invoked(calls: &mut Vec<Call>, since: u64, id: u32, op: &Op) -> Result<(), AllocError>
     ensures { OnOk result (calls.new.items ≡ calls_with calls.old.items since id (what_by op.now.name op.now.part)) }
 {
@@ -53,14 +53,14 @@ fn call_invoked(calls: &mut Vec<Call>, since: u64, id: u32, op: &Op) -> Result<(
     Ok(())
 }
 
-// The operation may take place no longer.
+// Removes operation `id`, which can no longer take place.
 fn call_out(calls: &mut Vec<Call>, id: u32)
     ensures { calls.new.items ≡ filter (is_other id) calls.old.items }
 {
     calls.retain(|call| call.id != id);
 }
 
-// The operation as it is after the one with this id has crashed.
+// Returns the operation after the crash of operation `id`.
 fn crashed_call(call: &Call, id: u32) -> Call
     ensures { result ≡ crashed id call.now }
 {
@@ -70,14 +70,14 @@ fn crashed_call(call: &Call, id: u32) -> Call
     }
 }
 
-// Whether the operation may still take place after the one with this id has crashed.
+// Returns whether the operation may still take place after the crash of operation `id`.
 fn is_left(call: &Call, id: u32) -> bool
     ensures { result ≡ outlives id call.now }
 {
     call.id != id || call.what != What::Reads
 }
 
-// The operations after one has crashed.
+// Returns the operations that may still take place after the crash of operation `id`.
 fn calls_crashed(alloc: Global, calls: &[Call], id: u32) -> Result<Vec<Call>, AllocError>
     ensures { IfOk result (λ left. left.items ≡ map (crashed id) (filter (outlives id) calls.now)) }
 {
@@ -90,14 +90,14 @@ fn calls_crashed(alloc: Global, calls: &[Call], id: u32) -> Result<Vec<Call>, Al
     Ok(left)
 }
 
-// Whether the operation is a read.
+// Returns whether the operation is a read.
 fn reads(call: &Call) -> bool
     ensures { result ≡ is_read call.now.what }
 {
     matches!(call.what, What::Reads)
 }
 
-// When the open reads were invoked. Costs O(operations).
+// Returns the moments at which the open reads were invoked. Costs O(operations).
 fn moments_of(alloc: Global, calls: &[Call]) -> Result<Vec<u64>, AllocError>
     ensures { IfOk result (λ moments. moments.items ≡ moments_of calls.now) }
 {
@@ -110,7 +110,7 @@ fn moments_of(alloc: Global, calls: &[Call]) -> Result<Vec<u64>, AllocError>
     Ok(moments)
 }
 
-// Puts the rows behind the others, each as far as reads that were invoked at these moments may tell.
+// Appends the rows in `more`, trimmed for reads that were invoked at these moments.
 fn join(rows: &mut Vec<Row>, mut more: Vec<Row>, moments: &[u64]) -> Result<(), AllocError>
     ensures each { OnOk result ((r : Row) → Contains rows.new.items r → Contains rows.old.items r
         ⊎ ((m : Row) × Contains more.items m × FindTheSame moments.now m r × HasLeastGaps moments.now r)) }
@@ -125,7 +125,7 @@ fn join(rows: &mut Vec<Row>, mut more: Vec<Row>, moments: &[u64]) -> Result<(), 
 }
 
 impl Kept {
-    /// The kept part of a history without events. Takes constant time.
+    /// Returns the facts of a history without events. Takes constant time.
     pub fn start(alloc: Global) -> Result<Kept, AllocError>
         ensures { IfOk result (λ k. AreFacts k []) }
     {
@@ -138,7 +138,7 @@ impl Kept {
         })
     }
 
-    /// The same again. Costs O(operations + rows).
+    /// Returns a copy of the facts. Costs O(operations + rows).
     pub fn copy(&self, alloc: Global) -> Result<Kept, AllocError>
         ensures { IfOk result (AreSame self.now) }
     {
@@ -154,7 +154,7 @@ impl Kept {
         })
     }
 
-    // The moment after the next mark; `AllocError` if there are as many marks as can be counted.
+    // Returns the moment after the next mark. `AllocError` if the number of marks cannot grow any more.
     fn next_moment(&self) -> Result<u64, AllocError>
         ensures { IfOk result (λ moment. moment ≡ self.now.moment + 1) }
     {
@@ -164,7 +164,7 @@ impl Kept {
         }
     }
 
-    // The operations that may still take place after the event.
+    // Returns the operations that may still take place after the event.
     fn calls_after(
         &self,
         alloc: Global,
@@ -187,7 +187,7 @@ impl Kept {
         Ok(calls)
     }
 
-    // All that the effect makes of the rows, as far as reads that were invoked at these moments may tell.
+    // Returns all rows that the effect makes of the rows, trimmed for reads that were invoked at these moments.
     fn rows_made(
         &self,
         alloc: Global,
@@ -206,7 +206,7 @@ impl Kept {
         Ok(made)
     }
 
-    // The rows after the event.
+    // Returns the rows after the event, without those that are at most another row. `later` has the operations after the event.
     fn rows_after(
         &self,
         alloc: Global,
@@ -221,7 +221,7 @@ impl Kept {
         Ok(left)
     }
 
-    // The rows after the event, unless they stay as they are.
+    // Returns the rows after the event, or `None` if they do not change.
     fn rows_changed(
         &self,
         alloc: Global,
@@ -241,7 +241,7 @@ impl Kept {
         Ok(Some(rows))
     }
 
-    /// The effect of the event of an operation on the kept facts. The id is that of the operation, and the part of an ok is the answer.
+    /// Returns the effect of an event of operation `id` on the stored facts. The part of an ok is the answer.
     pub fn change(
         &self,
         alloc: Global,
@@ -261,7 +261,7 @@ impl Kept {
         })
     }
 
-    /// Carries out the change. Takes no memory.
+    /// Carries out the change. Does not allocate.
     pub fn carry_out(&mut self, change: Change)
         ensures { self.new ≡ changed change self.old }
     {

@@ -1,4 +1,4 @@
-//! Rows that are at most another one are left out.
+//! Removal of the rows that are at most another row.
 ghost use Rattle.std.specs.Prelude.{◌≡◌, ◌↔◌, ◌⊎◌, ℕ, IsTrue, OnOk};
 ghost use Rattle.std.specs.List.{Contains};
 ghost use Rattle.wide_register.specs.Facts.{AreApart, AreLeftOut, FitsAt, IsAtMostBy, IsKeptIn, IsPassedIn};
@@ -10,7 +10,7 @@ use crate::calls::Call;
 use crate::row::{Passed, Row, has_id, place_of};
 use std::alloc::AllocError;
 
-// Whether each of these ids is among those.
+// Returns whether `those` contains each id in `these`.
 fn has_ids(those: &[u32], these: &[u32]) -> bool
     ensures { IsTrue result ↔ ((i : ℕ) → Contains these.now i → Contains those.now i) }
 {
@@ -22,7 +22,7 @@ fn has_ids(those: &[u32], these: &[u32]) -> bool
     true
 }
 
-// Whether `those` has the value at a gap that is not earlier. The value is probably at place `at`.
+// Returns whether `those` has the value of `passed` at the same gap or a later one. The value is probably at index `at`.
 fn has_passed_at(those: &[Passed], at: usize, passed: Passed) -> bool
     ensures { IsTrue result ↔ IsPassedIn those.now passed }
 {
@@ -32,7 +32,7 @@ fn has_passed_at(those: &[Passed], at: usize, passed: Passed) -> bool
     those.iter().any(|other| other.value == passed.value && passed.gap <= other.gap)
 }
 
-// Whether `those` has each value of `these` at a gap that is not earlier.
+// Returns whether `those` has each value of `these` at the same gap or a later one.
 fn has_passed(those: &[Passed], these: &[Passed]) -> bool
     ensures { IsTrue result ↔ ((p : Passed) → Contains these.now p → IsPassedIn those.now p) }
 {
@@ -46,8 +46,8 @@ fn has_passed(those: &[Passed], these: &[Passed]) -> bool
     true
 }
 
-// Whether the other row needs this operation if it is open and the row needs it. And whether it may take place before the last write of the
-// other row if it may here.
+// Returns whether the operation allows `row` to be at most `other`. If it is open and `row` needs it, `other` must need it. If it may take
+// place just before the last write of `row`, it must be allowed just before the last write of `other` too.
 fn fits(call: &Call, row: &Row, other: &Row) -> bool
     ensures { IsTrue result ↔ FitsAt row.now other.now call.now }
 {
@@ -62,7 +62,7 @@ fn fits(call: &Call, row: &Row, other: &Row) -> bool
     }
 }
 
-// Whether all of them do.
+// Returns whether all operations allow `row` to be at most `other`.
 fn all_fit(calls: &[Call], row: &Row, other: &Row) -> bool
     ensures { IsTrue result ↔ ((c : Call) → Contains calls.now c → FitsAt row.now other.now c) }
 {
@@ -74,7 +74,7 @@ fn all_fit(calls: &[Call], row: &Row, other: &Row) -> bool
     true
 }
 
-/// Whether `other` may become every row that `row` may become. Costs O(m n) in the sizes of both rows and the operations.
+/// Returns whether `other` may become every row that `row` may become. Costs O(m n) in the sizes of both rows and the operations.
 pub fn is_at_most(calls: &[Call], row: &Row, other: &Row) -> bool
     ensures { IsTrue result ↔ IsAtMostBy calls.now row.now other.now }
 {
@@ -90,7 +90,7 @@ pub fn is_at_most(calls: &[Call], row: &Row, other: &Row) -> bool
     all_fit(calls, row, other)
 }
 
-// Whether the row is at most one of these.
+// Returns whether the row is at most one of `rows`.
 fn is_covered(rows: &[Row], calls: &[Call], row: &Row) -> bool
     ensures { IsTrue result ↔ IsKeptIn calls.now rows.now row.now }
 {
@@ -102,7 +102,7 @@ fn is_covered(rows: &[Row], calls: &[Call], row: &Row) -> bool
     false
 }
 
-// Leaves out those that are at most the row.
+// Removes the rows that are at most `row`.
 fn leave_out(rows: &mut Vec<Row>, calls: &[Call], row: &Row)
     ensures { AreLeftOut calls.now row.now rows.old.items rows.new.items }
 {
@@ -124,7 +124,7 @@ pub fn keep(rows: &mut Vec<Row>, calls: &[Call], row: Row) -> Result<(), AllocEr
     Ok(())
 }
 
-/// Puts all of these rows among those. Costs O(pairs of them).
+/// Adds each row of `more`, as [`keep`] does. Costs O(pairs of rows).
 pub fn keep_all(rows: &mut Vec<Row>, calls: &[Call], mut more: Vec<Row>) -> Result<(), AllocError>
     ensures each { OnOk result ((r : Row) → Contains rows.new.items r → Contains rows.old.items r ⊎ Contains more.items r) }
     ensures old { OnOk result ((r : Row) → Contains rows.old.items r → IsKeptIn calls.now rows.new.items r) }

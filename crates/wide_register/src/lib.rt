@@ -1,7 +1,7 @@
-//! The history of one register, judged as its events come, by its lean ends. An end has a write that is open or has timed out only if an
-//! answer needs it.
+//! The judge of one register's history, event by event, by its lean ends. A lean end contains an open or timed-out write only if an answer
+//! requires it.
 //!
-//! A call takes memory only if its result can be `AllocError`.
+//! A call allocates only if its result can be `AllocError`.
 #![tactic(auto)]
 
 mod calls;

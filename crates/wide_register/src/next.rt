@@ -17,21 +17,21 @@ use std::alloc::{AllocError, Global};
 /// The effect of an event on each row.
 #[derive(Clone, Copy)]
 pub enum Effect {
-    /// It stays.
+    /// The row does not change.
     Keeps,
-    /// The operation with this id is out.
+    /// The operation with this id can no longer take place.
     Leaves(u32),
-    /// It is out, and must not have taken place.
+    /// The operation with this id must not have taken place. Rows that need it are removed.
     Fails(u32),
-    /// This write of this value is done.
+    /// This write of this value has returned.
     EndsWrite(Call, i64),
     /// This read has answered this value.
     EndsRead(Call, i64),
-    /// Nothing is left of any row.
+    /// All rows are removed.
     Dies,
 }
 
-// The effect of the answer of a read on each row.
+// Returns the effect of a read's answer on each row.
 fn effect_of_answer(read: Call, part: &Part) -> Effect
     ensures { IsEffectOfAnswer read (answer_of part.now) result }
 {
@@ -42,7 +42,7 @@ fn effect_of_answer(read: Call, part: &Part) -> Effect
     }
 }
 
-// The effect of an ok on each row.
+// Returns the effect of an ok on each row.
 fn effect_of_ok(calls: &[Call], id: u32, part: &Part) -> Effect
     ensures { IsEffect calls.now (Returned id (answer_of part.now)) result }
 {
@@ -55,7 +55,7 @@ fn effect_of_ok(calls: &[Call], id: u32, part: &Part) -> Effect
     }
 }
 
-// The effect of an info on each row.
+// Returns the effect of an info on each row.
 fn effect_of_info(calls: &[Call], id: u32) -> Effect
     ensures { IsEffect calls.now (Crashed id) result }
 {
@@ -68,7 +68,7 @@ fn effect_of_info(calls: &[Call], id: u32) -> Effect
     }
 }
 
-/// The effect of an event of an operation on each row. The id is that of the operation, and the part of an ok is the answer.
+/// Returns the effect of an event of operation `id` on each row. The part of an ok is the answer.
 pub fn effect_of(calls: &[Call], id: u32, kind: EventKind, op: &Op) -> Effect
     ensures { IsEffect calls.now (mark_by_act id id (act_by kind op.now)) result }
 {
@@ -80,14 +80,15 @@ pub fn effect_of(calls: &[Call], id: u32, kind: EventKind, op: &Op) -> Effect
     }
 }
 
-// Whether the operation is a write of the value that did not take place yet.
+// Returns whether the operation is a write of the value that the row does not need yet.
 fn is_free(row: &Row, call: &Call, value: i64) -> bool
     ensures { IsTrue result ↔ IsFree row.now value call.now }
 {
     call.what == What::Writes(value) && !has_id(&row.needed, call.id)
 }
 
-// The write takes place behind all others, and if it may, also just before the last write; the operation with the last id is done by it.
+// Appends the row in which the write takes place last. If `may_before`, also appends the row in which it takes place just before the last
+// write. Operation `done` is complete then, and is not needed any more.
 fn put_both(
     made: &mut Vec<Row>,
     row: &Row,
@@ -112,7 +113,7 @@ fn put_both(
     Ok(())
 }
 
-// The row alone.
+// Returns a list of this row.
 fn one(alloc: Global, row: Row) -> Result<Vec<Row>, AllocError>
     ensures { IfOk result (λ made. made.items ≡ row ∷ []) }
 {
@@ -121,7 +122,7 @@ fn one(alloc: Global, row: Row) -> Result<Vec<Row>, AllocError>
     Ok(made)
 }
 
-// The operation has failed.
+// Returns the rows after operation `id` has failed: none if the row needs it, and otherwise the row without it.
 fn fail(alloc: Global, row: &Row, id: u32) -> Result<Vec<Row>, AllocError>
     ensures each { IfOk result (λ made. (new : Row) → Contains made.items new
         → (¬ Contains row.now.needed.items id) × IsWithoutId id row.now new) }
@@ -136,7 +137,7 @@ fn fail(alloc: Global, row: &Row, id: u32) -> Result<Vec<Row>, AllocError>
     Ok(made)
 }
 
-// The write is done.
+// Returns the rows after the write has returned. If the row needs the write, it took place before; otherwise it takes place now.
 fn end_write(
     alloc: Global,
     row: &Row,
@@ -161,14 +162,14 @@ fn end_write(
     Ok(made)
 }
 
-// Whether both operations may still take place just before the last write.
+// Returns whether both operations may still take place just before the last write.
 fn have_door(row: &Row, read: &Call, write: &Call) -> bool
     ensures { IsTrue result ↔ (HasDoor row.now read.now × HasDoor row.now write.now) }
 {
     row.has_door(read) && row.has_door(write)
 }
 
-// A write of the value takes place, where the read may find it.
+// Returns the rows in which a write of the value takes place such that the read may find it.
 fn write_for_read(
     alloc: Global,
     row: &Row,
@@ -192,7 +193,7 @@ fn write_for_read(
     Ok(made)
 }
 
-// The read has answered the value.
+// Returns the rows after the read has answered the value.
 fn end_read(
     alloc: Global,
     row: &Row,
@@ -215,7 +216,7 @@ fn end_read(
     Ok(written)
 }
 
-/// The rows that the event makes of the row. Costs O(operations), each with the values that the row finds.
+/// Returns the rows that the effect makes of the row. Costs O(operations * values that the row finds).
 pub fn next_rows(
     alloc: Global,
     row: &Row,
@@ -253,14 +254,14 @@ pub fn next_rows(
     }
 }
 
-// Whether the operation is a write of the value.
+// Returns whether the operation is a write of the value.
 fn writes(call: &Call, value: i64) -> bool
     ensures { IsTrue result ↔ (call.now.what ≡ What.Writes value) }
 {
     call.what == What::Writes(value)
 }
 
-// How many of the operations are writes of the value.
+// Returns the number of operations that are writes of the value.
 fn writes_of(calls: &[Call], value: i64) -> u64
     ensures { result ≤ length calls.now }
 {
@@ -273,7 +274,7 @@ fn writes_of(calls: &[Call], value: i64) -> u64
     many
 }
 
-/// How many operations an event tries at each row. Costs O(operations).
+/// Returns how many operations an event tries at each row. Costs O(operations).
 pub fn tries_of(calls: &[Call], effect: &Effect) -> u64
     ensures { AreTries calls.now effect.now result }
 {

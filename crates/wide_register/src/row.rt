@@ -1,4 +1,4 @@
-//! Lean ends as they are kept.
+//! The representation of lean ends.
 ghost use Rattle.std.specs.Prelude.{◌≡◌, ◌≢◌, ◌+◌, ◌<◌, ◌≤◌, ◌↔◌, ◌⊎◌, ℕ, ℤ, Some, IfOk, IsTrue, OnOk, false, length};
 ghost use Rattle.std.specs.List.{AllZip, Contains};
 ghost use Rattle.wide_register.specs.Facts.{CanFind, FindTheSame, HasDoor, HasLeastGaps, IsCut, IsFirst, IsLeastGap, IsPut, IsSame, IsWithoutId, StoodAfter};
@@ -7,17 +7,17 @@ ghost use Rattle.wide_register.specs.declared.row.Passed.{Passed};
 use crate::calls::Call;
 use std::alloc::{AllocError, Global};
 
-/// A value that stood at a gap: each open read that was invoked before the gap, so that fewer marks came before its invocation, may
-/// find it.
+/// A value that was the state at a gap. An open read may find it if the read was invoked before the gap: fewer marks than `gap` came before
+/// its invocation.
 #[derive(Clone, Copy, PartialEq, Eq)]
 pub struct Passed {
     pub value: i64,
     pub gap: u64,
 }
 
-/// A lean end: the state, which each open read may find, and the open and crashed writes that took place. `passed` has the other values
-/// that the open reads may find, each once, with its latest gap, the greatest value first. An operation that is not among these writes may
-/// still take place just before the last write if fewer marks than `door` came before its invocation.
+/// A lean end. It has the state, which each open read may find, and the open and crashed writes that took place (`needed`). `passed` has
+/// the other values that the open reads may find, each once with its latest gap, the greatest value first. An operation outside `needed`
+/// may still take place just before the last write, if fewer marks than `door` came before its invocation.
 #[derive(Drop)]
 pub struct Row {
     pub state: Option<i64>,
@@ -26,14 +26,14 @@ pub struct Row {
     pub passed: Vec<Passed>,
 }
 
-// Whether the id is among `ids`. Costs O(ids).
+// Returns whether `ids` contains the id. Costs O(ids).
 pub fn has_id(ids: &[u32], id: u32) -> bool
     ensures { IsTrue result ↔ Contains ids.now id }
 {
     ids.contains(&id)
 }
 
-/// The first place from `from` on whose value is at most `value`. Costs O(places).
+/// Returns the first index from `from` on whose value is at most `value`. Costs O(values).
 pub fn place_of(passed: &[Passed], from: usize, value: i64) -> usize
     ensures { from ≤ length passed.now → result ≤ length passed.now }
 {
@@ -44,14 +44,14 @@ pub fn place_of(passed: &[Passed], from: usize, value: i64) -> usize
     at
 }
 
-// Whether it is this value that stood.
+// Returns whether this is the entry of `value`.
 fn is_of(one: &Passed, value: i64) -> bool
     ensures { IsTrue result ↔ (one.now.value ≡ value) }
 {
     one.value == value
 }
 
-// Whether the value is at place `at`. If so, its gap is raised to `gap`.
+// Returns whether `value` is at index `at`. If so, raises its gap to at least `gap`.
 fn is_raised(passed: &mut [Passed], at: usize, gap: u64, value: i64) -> bool
     ensures raised { IsTrue result → (v : ℤ) (t : ℕ) → StoodAfter passed.new v t
         ↔ (StoodAfter passed.old v t ⊎ ((value ≡ v) × (t < gap))) }
@@ -66,7 +66,7 @@ fn is_raised(passed: &mut [Passed], at: usize, gap: u64, value: i64) -> bool
     true
 }
 
-// The value stood at the gap, too. Costs O(found values).
+// Notes that `value` was the state at `gap`. Costs O(found values).
 fn note(passed: &mut Vec<Passed>, gap: u64, value: i64) -> Result<(), AllocError>
     ensures { OnOk result ((v : ℤ) (t : ℕ) → StoodAfter passed.new.items v t
         ↔ (StoodAfter passed.old.items v t ⊎ ((value ≡ v) × (t < gap)))) }
@@ -79,7 +79,7 @@ fn note(passed: &mut Vec<Passed>, gap: u64, value: i64) -> Result<(), AllocError
     Ok(())
 }
 
-// The same of a value, if there is one.
+// Notes that `value`, if there is one, was the state at `gap`.
 fn note_any(passed: &mut Vec<Passed>, gap: u64, value: Option<i64>) -> Result<(), AllocError>
     ensures { OnOk result ((v : ℤ) (t : ℕ) → StoodAfter passed.new.items v t
         ↔ (StoodAfter passed.old.items v t ⊎ ((value ≡ Some v) × (t < gap)))) }
@@ -93,7 +93,7 @@ fn note_any(passed: &mut Vec<Passed>, gap: u64, value: Option<i64>) -> Result<()
     }
 }
 
-// The least gap that is later than the moment too, if the gap is.
+// Returns the greater of `least` and `moment` + 1 if `gap` is later than `moment`, and otherwise `least`.
 fn least_with(least: u64, moment: u64, gap: u64) -> u64
     ensures { ((moment < gap) × (least ≤ moment) × (result ≡ moment + 1))
         ⊎ ((moment < gap → moment < least) × (result ≡ least)) }
@@ -105,7 +105,8 @@ fn least_with(least: u64, moment: u64, gap: u64) -> u64
     }
 }
 
-// The least gap that is later than the same of these moments; 0 if it is later than none. Costs O(moments).
+// Returns the least gap that comes after the same of these moments as `gap` does. Returns 0 if `gap` comes after none of them. Costs
+// O(moments).
 fn least_gap(moments: &[u64], gap: u64) -> u64
     ensures { IsLeastGap moments.now gap result }
 {
@@ -116,7 +117,7 @@ fn least_gap(moments: &[u64], gap: u64) -> u64
     least
 }
 
-// Each gap becomes the least one that is later than the same of these moments.
+// Replaces each gap by the least gap that comes after the same of these moments.
 fn cut_gaps(passed: &mut [Passed], moments: &[u64])
     ensures { AllZip (IsCut moments.now) passed.old passed.new }
 {
@@ -125,21 +126,21 @@ fn cut_gaps(passed: &mut [Passed], moments: &[u64])
     }
 }
 
-// Whether it says more than the state: it stood at a gap, and is not the state.
+// Returns whether the entry has information in addition to the state: it has a gap, and its value is not the state.
 fn says_more(one: &Passed, state: Option<i64>) -> bool
     ensures { IsTrue result ↔ ((0 < one.now.gap) × (state ≢ Some one.now.value)) }
 {
     one.gap > 0 && state != Some(one.value)
 }
 
-// Leaves out the values that stood at no gap, and the state.
+// Removes the values without a gap, and the state.
 fn leave_out_known(passed: &mut Vec<Passed>, state: Option<i64>)
     ensures { (p : Passed) → Contains passed.new.items p ↔ (Contains passed.old.items p × (0 < p.gap) × (state ≢ Some p.value)) }
 {
     passed.retain(|one| says_more(one, state));
 }
 
-// The write is among those that took place, unless it is done.
+// Adds the write to `needed`, unless it is `done`.
 fn need(needed: &mut Vec<u32>, write: u32, done: u32) -> Result<(), AllocError>
     ensures { OnOk result ((i : ℕ) → i ≢ done → Contains needed.new.items i ↔ ((i ≡ write) ⊎ Contains needed.old.items i)) }
 {
@@ -151,7 +152,7 @@ fn need(needed: &mut Vec<u32>, write: u32, done: u32) -> Result<(), AllocError>
 }
 
 impl Row {
-    /// The end of no operation. Takes constant time, and no memory.
+    /// Returns the end without operations. Takes constant time, and does not allocate.
     pub fn start(alloc: Global) -> Row
         ensures { IsFirst result }
     {
@@ -163,7 +164,7 @@ impl Row {
         }
     }
 
-    /// The same again. Costs O(its lists).
+    /// Returns a copy of the row. Costs O(its lists).
     pub fn copy(&self) -> Result<Row, AllocError>
         ensures { IfOk result (IsSame self.now) }
     {
@@ -175,21 +176,21 @@ impl Row {
         })
     }
 
-    /// Whether the operation may still take place just before the last write.
+    /// Returns whether the operation may still take place just before the last write.
     pub fn has_door(&self, call: &Call) -> bool
         ensures { IsTrue result ↔ HasDoor self.now call.now }
     {
         call.since < self.door && !has_id(&self.needed, call.id)
     }
 
-    // The operation is done, or out.
+    // Removes operation `id` from `needed`: it has returned, or can no longer take place.
     fn leave(&mut self, id: u32)
         ensures { IsWithoutId id self.old self.new }
     {
         self.needed.retain(|other| *other != id);
     }
 
-    /// The row without the operation. Costs O(its lists).
+    /// Returns the row without operation `id`. Costs O(its lists).
     pub fn without(&self, id: u32) -> Result<Row, AllocError>
         ensures { IfOk result (IsWithoutId id self.now) }
     {
@@ -198,7 +199,7 @@ impl Row {
         Ok(row)
     }
 
-    /// Whether the open read may find the value.
+    /// Returns whether the open read may find the value.
     pub fn may_answer(&self, read: &Call, value: i64) -> bool
         ensures { IsTrue result ↔ CanFind self.now value read.now.since }
     {
@@ -209,8 +210,8 @@ impl Row {
                 .any(|passed| passed.value == value && read.since < passed.gap)
     }
 
-    /// Leaves out the values that no read that was invoked at one of these moments may find. Each gap becomes the least that is later than
-    /// the same of them. Costs O(found values * moments), and takes no memory.
+    /// Removes the values that no read invoked at one of these moments may find. Replaces each gap by the least gap that comes after the
+    /// same of these moments. Does not allocate. Costs O(found values * moments).
     pub fn trim(&mut self, moments: &[u64])
         ensures same { FindTheSame moments.now self.old self.new }
         ensures least { HasLeastGaps moments.now self.new }
@@ -219,8 +220,8 @@ impl Row {
         leave_out_known(&mut self.passed, self.state);
     }
 
-    /// The row as the write takes place at this gap and leaves this state behind all, without the operation that is done by it. From then
-    /// on this value may be found before the gap. Costs O(`needed` + `passed`).
+    /// Returns the row after the write takes place at `gap`. The last state is then `state`. Open reads that were invoked before `gap` may
+    /// find `value`. Operation `done` is complete and is not needed any more. Costs O(`needed` + `passed`).
     pub fn put(
         &self,
         write: u32,

@@ -1,4 +1,4 @@
--- Invariant: the kept facts of the history of a set, where the moment of a mark is the number of marks before it
+-- Invariant: the kept facts of the history of a set. The moment of a mark is the number of marks before it
 use Rattle.std.specs.Prelude.{◌≡◌, ◌≢◌, ℕ, ◌+◌, ◌<◌, ◌≤◌, ℤ, ◌⊎◌, Bool, not, nat_eq, Option, Some, None, List, [], ◌∷◌, ◌++◌, length, take, drop}
 use Rattle.std.specs.List.{Contains, filter, insert}
 use Rattle.models.specs.declared.operation.Name.{Name}
@@ -28,30 +28,31 @@ call_by Add (Int v) = calls.Add v
 call_by Read Nil = calls.Read
 call_by _ _ = calls.Other
 
--- the mark stands at this moment
+-- the mark has this moment: that many marks come before it
 pub record StandsAt (marks : List Mark) (moment : ℕ) (mark : Mark) : Type 0 where
   pub before : List Mark
   pub after : List Mark
   pub cut : before ++ mark ∷ after ≡ marks
   pub here : length before ≡ moment
 
--- the open operations, each once or more often
+-- `pending` has each open operation, once or more often
 pub record ArePending (pending : List Pending) (marks : List Mark) : Type 0 where
   pub is : (p : Pending) → Contains pending p → IsOpen marks p.id
       × ((op : Op) × StandsAt marks p.since (Invoked p.id op) × (call_by op.name op.part ≡ p.call))
   pub all : (id : ℕ) → IsOpen marks id → (p : Pending) × Contains pending p × (p.id ≡ id)
 
--- the operation is done or has crashed, so that it can no longer fail
+-- the operation has returned or crashed, and can no longer fail
 abbrev pub CannotFail : List Mark → ℕ → Type 0
 CannotFail marks id = HasReturned marks id ⊎ Contains marks (Crashed id)
 
--- the operation has crashed, or returned at this moment
+-- the operation has crashed, or has returned at this moment
 abbrev pub IsSettledBy : List Mark → ℕ → Option ℕ → Type 0
 IsSettledBy marks id None = Contains marks (Crashed id)
 IsSettledBy marks id (Some moment) = (answer : Answer) × StandsAt marks moment (Returned id answer)
 
--- the log of adds that can no longer fail. Each logged add is such an add. For each such add of a value beyond the base, the log has an add
--- of that value with at most its moment of invocation; and, if it is done, one with at most its moment of return
+-- the log of adds that can no longer fail. Each logged add is such an add. Let an add that can no longer fail have a value outside the
+-- base. Then the log has an add of that value that was invoked no later. If the first one has returned, the log has one of that value that
+-- returned no later
 pub record AreLogged (log : List Added) (base : List ℤ) (marks : List Mark) : Type 0 where
   pub is : (a : Added) → Contains log a
       → (id : ℕ) × (op : Op) × IsAddOf marks id a.value × StandsAt marks a.since (Invoked id op)
@@ -62,7 +63,7 @@ pub record AreLogged (log : List Added) (base : List ℤ) (marks : List Mark) : 
       → StandsAt marks moment (Returned id answer)
       → (a : Added) × (by : ℕ) × Contains log a × (a.value ≡ v) × (a.by ≡ Some by) × (by ≤ moment)
 
--- the answers of reads, each with its least return, apart from answers within the base
+-- the answers of reads, each with its least return, except answers within the base
 pub record AreAnswers (base : List ℤ) (answers : List Answered) (marks : List Mark) : Type 0 where
   pub is : (a : Answered) → Contains answers a
       → (id : ℕ) × HasRead marks id a.members × StandsAt marks a.by (Returned id (Many a.members))
@@ -70,7 +71,7 @@ pub record AreAnswers (base : List ℤ) (answers : List Answered) (marks : List 
       → StandsAt marks moment (Returned id (Many members))
       → IsWithin members base ⊎ ((a : Answered) × Contains answers a × (a.members ≡ members) × (a.by ≤ moment))
 
--- each answer ascends, and is within each later one, which has more
+-- each answer ascends, and is within each later answer, which has more members
 abbrev pub Nests : Answered → Answered → Type 0
 Nests a b = IsWithin a.members b.members × (length a.members < length b.members)
 
@@ -78,7 +79,7 @@ pub record AreNested (answers : List Answered) : Type 0 where
   pub ascending : (a : Answered) → Contains answers a → IsAscending a.members
   pub nested : Pairwise Nests answers
 
--- the known facts, apart from how they are kept
+-- the facts, without the form in which they are kept
 pub record Facts : Type 0 where
   pub now : ℕ
   pub pending : List Pending
@@ -86,7 +87,7 @@ pub record Facts : Type 0 where
   pub base : List ℤ
   pub answers : List Answered
 
--- those of a history without events
+-- the facts of a history without events
 abbrev pub no_facts : Facts
 no_facts = record { now = 0; pending = []; log = []; base = []; answers = [] }
 
@@ -103,11 +104,11 @@ facts_of k = record {
 abbrev pub IsBeforePending : List Pending → ℕ → Type 0
 IsBeforePending pending by = (p : Pending) → Contains pending p → by < p.since
 
--- these members were answered before each open operation was invoked
+-- the base was answered before each open operation was invoked
 abbrev pub IsBase : Facts → Type 0
 IsBase f = (a : Answered) × Contains f.answers a × (a.members ≡ f.base) × IsBeforePending f.pending a.by
 
--- these are the facts of the history, which is chained
+-- f has the facts of the history, which is chained
 pub record AreFacts (f : Facts) (marks : List Mark) : Type 0 where
   pub well : AreWellFormed marks
   pub chained : IsChained marks
@@ -116,55 +117,55 @@ pub record AreFacts (f : Facts) (marks : List Mark) : Type 0 where
   pub logged : AreLogged f.log f.base marks
   pub answers : AreAnswers f.base f.answers marks
   pub nested : AreNested f.answers
-  -- the base is empty, or an answer that all later ones have
+  -- the base is empty, or an answer that was given before each open operation was invoked
   pub based : (v : ℤ) → Contains f.base v → IsBase f
 
--- an add of the value that is logged was invoked at this moment
+-- the log has an add of v that was invoked at this moment
 abbrev pub HasLogged : List Added → ℤ → ℕ → Type 0
 HasLogged log v moment = (a : Added) × Contains log a × (a.value ≡ v) × (a.since ≡ moment)
 
--- an open add of the value, another operation than this one, was invoked at this moment
+-- another open operation than `but` is an add of v that was invoked at this moment
 abbrev pub HasPendingAdd : List Pending → ℕ → ℤ → ℕ → Type 0
 HasPendingAdd pending but v moment =
     (p : Pending) × Contains pending p × (p.id ≢ but) × (p.call ≡ calls.Add v) × (p.since ≡ moment)
 
--- an add of the value, another operation than this one, was invoked at this moment and has not failed
+-- an add of v, logged or open and not `but`, was invoked at this moment. It has not failed
 abbrev pub HasAdd : Facts → ℕ → ℤ → ℕ → Type 0
 HasAdd f but v moment = HasLogged f.log v moment ⊎ HasPendingAdd f.pending but v moment
 
--- the answer is in the chain, and none that has more came before this moment
+-- the answer fits into the chain, and no answer that has more members was returned before the moment `since`
 pub record IsInChain (answers : List Answered) (since : ℕ) (members : List ℤ) : Type 0 where
   pub chain : (a : Answered) → Contains answers a
       → IsWithin members a.members ⊎ IsWithin a.members members
   pub in_turn : (a : Answered) → Contains answers a → IsWithin members a.members
       → ¬ IsWithin a.members members → since ≤ a.by
 
--- an add of another value than these is logged as done at this moment
+-- the log has the add a, which returned at this moment, and its value is not one of the members
 abbrev pub IsDoneBeyond : List Added → List ℤ → Added → ℕ → Type 0
 IsDoneBeyond log members a moment = Contains log a × (a.by ≡ Some moment) × (¬ Contains members a.value)
 
--- the members of an answer were added in time, if the read was invoked at this moment
+-- the members of an answer were added in time for a read that was invoked at the moment `since`, also without the operation `but`
 pub record WereAdded (f : Facts) (but since : ℕ) (members : List ℤ) : Type 0 where
   pub has_add : (v : ℤ) → Contains members v → ¬ Contains f.base v → (moment : ℕ) × HasAdd f but v moment
   pub in_time : (v : ℤ) (a : Added) (by : ℕ) → Contains members v → ¬ Contains f.base v
       → IsDoneBeyond f.log members a by → (moment : ℕ) × HasAdd f but v moment × (moment ≤ by)
   pub not_before : (a : Added) (by : ℕ) → IsDoneBeyond f.log members a by → since ≤ by
 
--- a value that an operation puts in may miss it, as far as this answer goes
+-- the answer a needs no add of v by the operation `but`: there are others in time
 pub record IsSpared (f : Facts) (but : ℕ) (v : ℤ) (a : Answered) : Type 0 where
   pub in_time : (moment : ℕ) × HasAdd f but v moment × (moment ≤ a.by)
   pub before_done : (d : Added) (by : ℕ) → IsDoneBeyond f.log a.members d by
       → (moment : ℕ) × HasAdd f but v moment × (moment ≤ by)
 
--- the same as far as all answers go. A value of the base has an add that came before each open operation
+-- no answer needs the add of v by the operation `but`. A value of the base has an add that was invoked before each open operation
 abbrev pub AreSpared : Facts → ℕ → ℤ → Type 0
 AreSpared f but v = ¬ Contains f.base v → (a : Answered) → Contains f.answers a → Contains a.members v → IsSpared f but v a
 
--- the pending operations but this one
+-- the operation has another id
 abbrev pub is_other : ℕ → Pending → Bool
 is_other id p = not (nat_eq p.id id)
 
--- the facts after one more event: an operation is invoked
+-- the facts after the invocation of the operation p
 abbrev pub with_invoked : Pending → Facts → Facts
 with_invoked p f = record {
   now = f.now + 1;
@@ -174,7 +175,7 @@ with_invoked p f = record {
   answers = f.answers;
 }
 
--- an operation is pending no longer, and nothing else is known
+-- the facts after an operation is no longer pending, without another change
 abbrev pub without : ℕ → Facts → Facts
 without id f = record {
   now = f.now + 1;
@@ -184,7 +185,7 @@ without id f = record {
   answers = f.answers;
 }
 
--- an add is done or has crashed
+-- the facts after an add, which returned or crashed, is logged
 abbrev pub with_logged : ℕ → Added → Facts → Facts
 with_logged id a f = record {
   now = f.now + 1;
@@ -194,7 +195,7 @@ with_logged id a f = record {
   answers = f.answers;
 }
 
--- a read has a new answer, at this place of the chain
+-- the facts after a read has given a new answer, which is at this place of the chain
 abbrev pub with_answer : ℕ → ℕ → Answered → Facts → Facts
 with_answer id at a f = record {
   now = f.now + 1;
@@ -204,7 +205,7 @@ with_answer id at a f = record {
   answers = insert f.answers at a;
 }
 
--- this is the place of these members in the chain: those before it are fewer and those behind it more
+-- the place of the members in the chain: the answers before it have fewer members, and those after it have more
 pub record IsPlace (answers : List Answered) (at : ℕ) (members : List ℤ) : Type 0 where
   pub within : at ≤ length answers
   pub fewer : (a : Answered) → Contains (take at answers) a

@@ -17,7 +17,7 @@ abbrev pub earlier_of : Option ℕ → ℕ → ℕ
 earlier_of None moment = moment
 earlier_of (Some n) moment = min n moment
 
--- the moment comes before the least one, if there is one
+-- the moment is before the least one, if there is one
 abbrev pub IsBefore : ℕ → Option ℕ → Type 0
 IsBefore moment None = Unit {0}
 IsBefore moment (Some n) = moment < n
@@ -27,14 +27,14 @@ abbrev pub IsWithinLimit : ℕ → Option ℕ → Type 0
 IsWithinLimit moment None = Unit {0}
 IsWithinLimit moment (Some n) = moment ≤ n
 
--- the add is one of the value, and was invoked by the limit. Likewise an open one, which is another operation than this
+-- the add is of v, and was invoked by the limit, if there is one; an open operation that is not `but` is such an add
 abbrev pub IsTimelyAdd : Added → Option ℕ → ℤ → Type 0
 IsTimelyAdd a limit v = (a.value ≡ v) × IsWithinLimit a.since limit
 
 abbrev pub IsTimelyCall : Pending → ℕ → Option ℕ → ℤ → Type 0
 IsTimelyCall p but limit v = (p.id ≢ but) × (p.call ≡ calls.Add v) × IsWithinLimit p.since limit
 
--- there is such an add
+-- the log has such an add; an open operation is such an add; one of the two
 abbrev pub HasTimelyLogged : List Added → Option ℕ → ℤ → Type 0
 HasTimelyLogged log limit v = (a : Added) × Contains log a × IsTimelyAdd a limit v
 
@@ -44,7 +44,7 @@ HasTimelyPending pending but limit v = (p : Pending) × Contains pending p × Is
 abbrev pub HasTimely : List Added → List Pending → ℕ → Option ℕ → ℤ → Type 0
 HasTimely log pending but limit v = HasTimelyLogged log limit v ⊎ HasTimelyPending pending but limit v
 
--- the moment is at most this one and that of each open operation
+-- `least` is at most this moment and the moment of each open operation
 abbrev pub IsLeastSince : List Pending → ℕ → ℕ → Type 0
 IsLeastSince pending moment least = (least ≤ moment) × ((p : Pending) → Contains pending p → least ≤ p.since)
 
@@ -52,12 +52,12 @@ IsLeastSince pending moment least = (least ≤ moment) × ((p : Pending) → Con
 abbrev pub IsLastBefore : List Answered → ℕ → ℕ → Type 0
 IsLastBefore answers moment at = (at < length answers) × ((a : Answered) → a ≡ get_or answers at a → a.by < moment)
 
--- the log with the add behind it, if that is one of another value than these
+-- the log with the add at its end if the add's value is not one of these values, else the same log
 abbrev pub IsWithOther : List Added → Added → List ℤ → List Added → Type 0
 IsWithOther log a values next =
     ((next ≡ log) × Contains values a.value) ⊎ ((next ≡ log ++ a ∷ []) × (¬ Contains values a.value))
 
--- the first moment so far, or that at which the add was done, if it was and has another value than the members, and if that is less
+-- the least of two moments: the first one so far, and that at which the add returned, if it did and its value is not one of the members
 pub record IsFirstWith (a : Added) (members : List ℤ) (first result : Option ℕ) : Type 0 where
   pub from : (result ≡ first) ⊎ ((result ≡ a.by) × (¬ Contains members a.value))
   pub least : (n : ℕ) → a.by ≡ Some n → ¬ Contains members a.value → IsNoLater result n
@@ -66,7 +66,7 @@ pub record IsFirstWith (a : Added) (members : List ℤ) (first result : Option �
 abbrev pub HasBefore : List Answered → ℕ → Type 0
 HasBefore answers moment = (a : Answered) × Contains answers a × (a.by < moment)
 
--- where these members stand in the chain, for a read that was invoked at this moment
+-- the place of these members in the chain, for a read that was invoked at the moment `since`
 abbrev pub IsPlaced : List Answered → ℕ → List ℤ → Place → Type 0
 IsPlaced answers since members Nowhere = ¬ IsInChain answers since members
 IsPlaced answers since members Known =
@@ -74,7 +74,7 @@ IsPlaced answers since members Known =
 IsPlaced answers since members (Behind at) =
     IsInChain answers since members × IsPlace answers at members
 
--- the same, if they were added in time
+-- the place of these members in the chain, if they were added in time
 abbrev pub IsAnswered : Facts → ℕ → ℕ → List ℤ → Place → Type 0
 IsAnswered f but since members Nowhere =
     IsInChain f.answers since members → ¬ WereAdded f but since members

@@ -1,4 +1,4 @@
--- Promise: a set that is judged, seen as the histories that it stands for
+-- Promise: a set that is judged, seen as its histories
 use Rattle.std.specs.Prelude.{Bool, true, false}
 use Rattle.judging.specs.declared.step.Step.{Step}
 use Rattle.judging.specs.declared.step.Step.TheVariants.{Alive, Dead}
@@ -8,7 +8,7 @@ use Rattle.wide_set.specs.Facts.{facts_of}
 use Rattle.wide_set.specs.Kept.{StandBy}
 use Rattle.wide_set.specs.Judges.{next_of}
 
--- the step of an event after which the history is linearizable, or is not
+-- Alive after an event if the history is linearizable, else Dead
 abbrev pub step_by : Bool → Step
 step_by true = Alive
 step_by false = Dead

@@ -1,4 +1,4 @@
-//! Changes of the facts by events.
+//! Changes of the known facts by events.
 ghost use Rattle.std.specs.Prelude.{◌≡◌, ◌≢◌, ◌+◌, IfOk, OnOk, OnErr};
 ghost use Rattle.std.specs.List.{Contains, filter, insert};
 ghost use Rattle.models.specs.Objects.{answer_of};
@@ -15,22 +15,22 @@ use events::EventKind;
 use models::{Op, Part};
 use std::alloc::AllocError;
 
-/// A change of the facts by an event.
+/// A change of the known facts by an event.
 #[derive(Drop)]
 pub enum Change {
-    /// The history is linearizable no longer.
+    /// The history is not linearizable any more.
     Dies,
     /// This operation is invoked.
     Invokes(Pending),
-    /// The operation with this id is open no longer, and the facts are the same.
+    /// The operation with this id is not open any more, and the other facts do not change.
     Leaves(u32),
-    /// The add with this id is done or has crashed.
+    /// The add with this id has returned or crashed, and is logged.
     Logs(u32, Added),
-    /// The read with this id has a new answer, at this place of the chain.
+    /// The read with this id has a new answer, which is inserted into the chain at this index.
     Answers(u32, usize, Answered),
 }
 
-// Removes the operation.
+// Removes operation `id`.
 fn drop_pending(pending: &mut Vec<Pending>, id: u32)
     ensures { pending.new.items ≡ filter (is_other id) pending.old.items }
 {
@@ -38,7 +38,7 @@ fn drop_pending(pending: &mut Vec<Pending>, id: u32)
 }
 
 impl Change {
-    /// The same change. Takes constant time.
+    /// Returns an equal change. Takes constant time.
     pub fn copy(&self) -> Result<Change, AllocError>
         ensures { IfOk result (λ change. change ≡ self.now) }
     {
@@ -53,7 +53,7 @@ impl Change {
 }
 
 impl Known {
-    // The moment of the mark after the next one; `AllocError` if it is too great to be counted.
+    // Returns the moment after the next mark. `AllocError` if the number of marks cannot grow any more.
     fn next_moment(&self) -> Result<u64, AllocError>
         ensures { IfOk result (λ moment. moment ≡ self.now.moment + 1) }
     {
@@ -106,7 +106,7 @@ impl Known {
         Ok(())
     }
 
-    /// Carries a change out. On `AllocError` all stays as it was. O(open operations), and for a new answer O(answers behind it).
+    /// Carries out a change. On `AllocError` nothing has changed. Costs O(open operations), and for a new answer O(answers after it).
     pub fn carry_out(&mut self, change: &Change) -> Result<(), AllocError>
         ensures ok { OnOk result (facts_of self.new ≡ after change.now (facts_of self.old)) }
         ensures err { OnErr result (facts_of self.new ≡ facts_of self.old) }
@@ -120,7 +120,7 @@ impl Known {
         }
     }
 
-    // The change by an invocation.
+    // Returns the change by an invocation.
     fn after_invoke(&self, id: u32, op: &Op) -> Change
         ensures taken { IsTakenBy (facts_of self.now) (Invoked id op.now) result }
         ensures lives { result ≢ Change.Dies }
@@ -132,8 +132,8 @@ impl Known {
         })
     }
 
-    // The change by the ok or the info of an add of this value: the add is done by this moment, or has crashed. Nothing is logged of a
-    // value in the base.
+    // Returns the change by the ok or the info of an add of this value. `by` is the moment of the ok, or `None` for an info. An add of a
+    // value in the base is not logged.
     fn after_add(&self, call: &Pending, value: i64, by: Option<u64>) -> Change
         ensures { IsAfterAdd (facts_of self.now) call.now value by result }
     {
@@ -150,7 +150,7 @@ impl Known {
         )
     }
 
-    // The change by the ok of a read.
+    // Returns the change by the ok of a read.
     fn after_read(&self, call: &Pending, part: &Part) -> Result<Change, AllocError>
         ensures { call.now.call ≡ Call.Read → Contains self.now.pending.items call.now
             → IfOk result (IsTakenBy (facts_of self.now) (Returned call.now.id (answer_of part.now))) }
@@ -172,7 +172,7 @@ impl Known {
         }
     }
 
-    // The change by an ok.
+    // Returns the change by an ok.
     fn after_ok(&self, id: u32, part: &Part) -> Result<Change, AllocError>
         ensures { IfOk result (IsTakenBy (facts_of self.now) (Returned id (answer_of part.now))) }
     {
@@ -186,7 +186,7 @@ impl Known {
         }
     }
 
-    // The change by a fail.
+    // Returns the change by a fail.
     fn after_fail(&self, id: u32) -> Result<Change, AllocError>
         ensures { IfOk result (IsTakenBy (facts_of self.now) (Failed id)) }
     {
@@ -207,7 +207,7 @@ impl Known {
         }
     }
 
-    // The change by an info.
+    // Returns the change by an info.
     fn after_info(&self, id: u32) -> Change
         ensures taken { IsTakenBy (facts_of self.now) (Crashed id) result }
         ensures lives { result ≢ Change.Dies }
@@ -222,7 +222,7 @@ impl Known {
         }
     }
 
-    /// The change by an event of the operation with this id. The part of an ok is the answer.
+    /// Returns the change by an event of operation `id`. The part of an ok is the answer.
     pub fn after_event(&self, id: u32, kind: EventKind, op: &Op) -> Result<Change, AllocError>
         ensures taken { IfOk result (IsTakenBy (facts_of self.now) (mark_by_act id id (act_by kind op.now))) }
     {

@@ -1,4 +1,4 @@
-//! Facts that no later event needs.
+//! Removal of facts that no later event needs.
 ghost use Rattle.wide_set.specs.Facts.{facts_of};
 ghost use Rattle.wide_set.specs.Kept.{IsKept};
 
@@ -7,8 +7,8 @@ use crate::queries::{last_before, oldest};
 use std::alloc::AllocError;
 
 impl Known {
-    // Takes the greatest answer that came before each open operation as the base, if it has more than the base, and returns whether it has.
-    // Forgets the answers within it.
+    // Makes the greatest answer that came before the invocation of each open operation the base, if it has more members than the base.
+    // Forgets the answers that are subsets of the new base. Returns whether the base has changed.
     fn raise_base(&mut self) -> Result<bool, AllocError>
         ensures { IsKept (facts_of self.old) (facts_of self.new) }
     {
@@ -36,9 +36,9 @@ impl Known {
         Ok(())
     }
 
-    /// Forgets facts that no later event needs. The greatest answer that was given before each open operation was invoked becomes the
-    /// base, since each later answer has all of it. The answers within it are forgotten. The adds of its values are forgotten when the
-    /// log is twice as long as after the last time. O(open operations), and O(1) for each event that was logged.
+    /// Forgets facts that no later event needs. The greatest answer that was given before each open operation was invoked becomes the base,
+    /// since each later answer contains it. The answers that are subsets of the base are forgotten. The adds of values in the base are
+    /// forgotten when the log has become twice as long as after the last time. Costs O(open operations), and O(1) for each logged event.
     pub fn forget(&mut self) -> Result<(), AllocError>
         ensures { IsKept (facts_of self.old) (facts_of self.new) }
     {

@@ -1,4 +1,4 @@
-//! Sets that are judged live.
+//! The judge of a set's history, event by event.
 ghost use Rattle.std.specs.Prelude.{◌≡◌, ◌≢◌, ◌↔◌, List, Some, None, IfOk, OnOk, OnErr, IsTrue};
 ghost use Rattle.kinds.specs.Kinds.{object_of};
 ghost use Rattle.kinds.specs.declared.model_kind.ModelKind.TheVariants.{WideSet as OfWideSet};
@@ -18,33 +18,33 @@ use judging::Step;
 use models::Op;
 use std::alloc::{AllocError, Global};
 
-/// The history of one set, judged as its events come. It is linearizable exactly if the answers of its reads form a chain that fits the
-/// times (`set_chains`). Nothing branches, so nothing is counted, and no answer is unknown.
+/// The history of one set, judged event by event. It is linearizable if and only if the answers of its reads form a chain that fits the
+/// times (`set_chains`). There are no alternatives to try, so the budget counts nothing, and no answer is unknown.
 ///
-/// An event can be prepared and then committed. `prepare` may run out of memory, and changes nothing until `commit`, which takes no
-/// memory. A second `prepare` replaces the first.
+/// An event is first prepared and then committed. `prepare` may run out of memory, and changes nothing until `commit`, which does not
+/// allocate. A second `prepare` replaces the first one.
 ///
-/// Only facts that a later event may need are kept: the open operations, the last answer that came before all of them, and the answers
-/// and the adds since then.
+/// Only facts that a later event may need are stored: the open operations, the last answer before their invocations, and later answers and
+/// adds.
 #[derive(Drop)]
 pub struct WideSet {
     /// The key's budget, which no set exceeds.
     budget: u32,
     known: Known,
-    /// The change by the last event, which the next one carries out.
+    /// The change by the last event, which the next event carries out.
     due: Option<Change>,
     /// The prepared change.
     next: Option<Change>,
 }
 
-// Whether the change is that the history is linearizable no longer.
+// Returns whether the history is not linearizable after the change.
 fn is_dead(change: &Option<Change>) -> bool
     ensures { IsTrue result ↔ (change.now ≡ Some Dies) }
 {
     matches!(change, Some(Change::Dies))
 }
 
-// The same change, if there is one.
+// Returns an equal change, if there is one.
 fn copied(change: &Option<Change>) -> Result<Option<Change>, AllocError>
     ensures { IfOk result (λ other. other ≡ change.now) }
 {
@@ -54,14 +54,14 @@ fn copied(change: &Option<Change>) -> Result<Option<Change>, AllocError>
     }
 }
 
-// The answer of an event after which the history is linearizable, or is not.
+// Returns the answer of an event: Alive if the history is linearizable after it, and otherwise Dead.
 fn step_of(is_alive: bool) -> Step
     ensures { result ≡ step_by is_alive }
 {
     if is_alive { Step::Alive } else { Step::Dead }
 }
 
-// Whether an event of this kind can kill.
+// Returns whether an event of this kind can make the history illegal.
 fn can_kill(kind: EventKind) -> bool
     ensures { result ≡ kills kind }
 {
@@ -69,7 +69,7 @@ fn can_kill(kind: EventKind) -> bool
 }
 
 impl WideSet {
-    /// A history without events. Takes constant time, and no memory.
+    /// Returns the judge of a history without events. Takes constant time, and does not allocate.
     pub fn start(alloc: Global, budget: u32) -> WideSet
         ensures { IsStart budget (view_of result) }
     {
@@ -81,8 +81,8 @@ impl WideSet {
         }
     }
 
-    /// The same set, with nothing prepared. It shares the members of answers, and a log of more than 128 adds. O(open operations and
-    /// answers since the oldest of them was invoked).
+    /// Returns an equal set with nothing prepared. It shares the members of answers, and a log of more than 128 adds. Costs O(open
+    /// operations + answers since the oldest of them was invoked).
     pub fn copy(&self) -> Result<WideSet, AllocError>
         ensures { IfOk result (λ set. IsCopy (view_of self.now) (view_of set)) }
     {
@@ -112,7 +112,7 @@ impl WideSet {
         Ok(())
     }
 
-    // Prepares an event, and answers whether the history with it is linearizable; an invocation and an info get true.
+    // Prepares an event, and returns whether the history after it is linearizable. Returns true for an invocation and an info.
     fn judge(&mut self, id: u32, kind: EventKind, op: &Op) -> Result<bool, AllocError>
         ensures judged { JudgesNext self.old self.new (mark_by_act id id (act_by kind op.now)) result }
         ensures budget { self.new.budget ≡ self.old.budget }
@@ -129,11 +129,11 @@ impl WideSet {
         Ok(alive)
     }
 
-    /// Prepares an event of an operation, and gives its answer, which is never Over. The id is the index of the operation's
-    /// invocation: new for an invocation, else that of an open operation. The part of an ok is the answer. An invocation and an info are
-    /// answered Alive, since they kill nothing. The history stays the same until [`commit`](Self::commit). After `AllocError` no commit
-    /// must follow. Another prepared event is dropped. The ok of a read takes O(members, answers that have more, n log n in the logged
-    /// adds), another event O(open operations).
+    /// Prepares an event of an operation, and returns its answer, which is never Over. `id` is the index of the operation's invocation: a
+    /// new one for an invocation, and otherwise that of an open operation. The part of an ok is the answer. Returns Alive for an invocation
+    /// and an info, since they never make a history illegal. Until [`commit`](Self::commit) the set represents the same histories. Do not
+    /// call `commit` after `AllocError`. Drops another prepared event. The ok of a read costs O(members + answers with more members + n log
+    /// n) for n logged adds. Another event costs O(open operations).
     pub fn prepare(&mut self, id: u32, kind: EventKind, op: &Op) -> Result<Step, AllocError>
         ensures { Prepares (view_of self.old) (view_of self.new) (CountsMoreThan OfWideSet) (object_of OfWideSet)
             (mark_by id kind op.now) result }
@@ -142,7 +142,7 @@ impl WideSet {
         Ok(step_of(alive))
     }
 
-    /// Carries out the prepared event, if there is one. It takes no memory and cannot fail.
+    /// Carries out the prepared event, if there is one. Does not allocate and cannot fail.
     pub fn commit(&mut self)
         ensures { Commits (view_of self.old) (view_of self.new) }
     {
@@ -151,8 +151,8 @@ impl WideSet {
         }
     }
 
-    /// An event of an operation: [`prepare`](Self::prepare) and [`commit`](Self::commit) in one. On `AllocError` the history stays the
-    /// same.
+    /// Observes an event of an operation. Does the same as [`prepare`](Self::prepare) and [`commit`](Self::commit). After `AllocError` the
+    /// set represents the same histories as before.
     pub fn observe(&mut self, id: u32, kind: EventKind, op: &Op) -> Result<Step, AllocError>
         ensures { Observes (view_of self.old) (view_of self.new) (CountsMoreThan OfWideSet) (object_of OfWideSet)
             (mark_by id kind op.now) result }
@@ -162,7 +162,7 @@ impl WideSet {
         Ok(step)
     }
 
-    /// How many steps were made so far: none, since nothing is tried.
+    /// Returns the number of steps so far: 0, since no operation is tried.
     pub fn applied(&self) -> u64
         ensures { result ≡ (view_of self.now).applied }
     {

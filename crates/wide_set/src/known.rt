@@ -1,4 +1,4 @@
-//! The known facts of the history of a set.
+//! The known facts about the history of a set.
 ghost use Rattle.std.specs.Prelude.{◌≡◌, IfOk};
 ghost use Rattle.wide_set.specs.Facts.{call_by, facts_of, no_facts};
 
@@ -7,15 +7,15 @@ use models::{Name, Part};
 use std::alloc::{AllocError, Global};
 use values::Members;
 
-/// The log forgets adds only if it has at least this number of them.
+/// The log forgets adds only if it has at least this number of adds.
 pub const ROOM: usize = 64;
 
 /// A call of a set.
 #[derive(Clone, Copy, Debug, PartialEq, Eq)]
 pub enum Call {
-    /// It puts the value in.
+    /// The call inserts this value.
     Add(i64),
-    /// It finds all members.
+    /// The call finds all members.
     Read,
     /// A set has no such operation.
     Other,
@@ -36,22 +36,22 @@ pub struct Answered {
     pub by: u64,
 }
 
-/// The known facts of a history: the number of its marks, the open operations, the adds that can no longer fail, and the different answers,
-/// each a subset of the next. Adds of the values in `base` may be forgotten, and so may answers that are subsets of `base`.
+/// The known facts of a history: the number of its marks, the open operations, the adds that can no longer fail, and the different answers.
+/// Each answer is a subset of the next one. Adds of values in `base` may be forgotten, and so may answers that are subsets of `base`.
 #[derive(Drop)]
 pub struct Known {
     pub alloc: Global,
     pub moment: u64,
     pub pending: Vec<Pending>,
     pub log: Log,
-    /// An answer that was given before each open operation was invoked, so that each later answer has all of it.
+    /// An answer that was given before each open operation was invoked, so each later answer contains it.
     pub base: Members,
     pub answers: Vec<Answered>,
-    /// The number of logged adds at which the log is looked through again.
+    /// The number of logged adds from which on the log forgets adds again.
     pub room: usize,
 }
 
-/// The call of an operation of this name and part. O(1).
+/// Returns the call of an operation with this name and part. Costs O(1).
 pub fn call_of(name: Name, part: &Part) -> Call
     ensures { result ≡ call_by name part.now }
 {
@@ -63,7 +63,7 @@ pub fn call_of(name: Name, part: &Part) -> Call
 }
 
 impl Answered {
-    /// The same answer, whose members are shared. O(1).
+    /// Returns an equal answer, which shares the members. Costs O(1).
     pub fn copy(&self) -> Result<Answered, AllocError>
         ensures { IfOk result (λ answered. answered ≡ self.now) }
     {
@@ -74,7 +74,7 @@ impl Answered {
     }
 }
 
-// The same answers. O(answers).
+// Returns equal answers. Costs O(answers).
 fn copies(alloc: Global, answers: &[Answered]) -> Result<Vec<Answered>, AllocError>
     ensures { IfOk result (λ list. list.items ≡ answers.now) }
 {
@@ -86,7 +86,7 @@ fn copies(alloc: Global, answers: &[Answered]) -> Result<Vec<Answered>, AllocErr
 }
 
 impl Known {
-    /// The facts of a history without events. O(1), and no memory.
+    /// Returns the facts of a history without events. Costs O(1), and does not allocate.
     pub fn new(alloc: Global) -> Known
         ensures { facts_of result ≡ no_facts }
     {
@@ -101,7 +101,7 @@ impl Known {
         }
     }
 
-    /// The same facts. O(open operations, answers, 128 logged adds).
+    /// Returns equal facts. Costs O(open operations + answers + 128 logged adds).
     pub fn copy(&self) -> Result<Known, AllocError>
         ensures { IfOk result (λ known. facts_of known ≡ facts_of self.now) }
     {

@@ -1,6 +1,6 @@
-//! Judges the history of one set as its events come, without ends: by the answers of its reads, and their moments.
+//! The judge of one set's history, event by event. It uses the answers of the reads and their times, and no ends.
 //!
-//! A call takes memory only if its result can be `AllocError`.
+//! A call allocates only if its result can be `AllocError`.
 #![tactic(auto)]
 
 mod change;

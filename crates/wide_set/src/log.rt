@@ -10,7 +10,7 @@ use persistent::Row;
 use std::alloc::{AllocError, Global};
 use std::marker::Model;
 
-/// An add that can no longer fail: its value, the number of marks before its invocation, and, if it is done, before its return.
+/// An add that can no longer fail: its value, the number of marks before its invocation, and, if it has returned, before its return.
 #[derive(Clone, Copy)]
 pub struct Added {
     pub value: i64,
@@ -18,7 +18,7 @@ pub struct Added {
     pub by: Option<u64>,
 }
 
-/// Adds in the order in which they were done or crashed. A copy shares all but the last 64 of many.
+/// Adds in the order in which they returned or crashed. A copy of more than 128 adds shares them.
 #[derive(Drop)]
 pub struct Log {
     alloc: Global,
@@ -35,7 +35,7 @@ impl Model for Log {
 }
 
 impl Log {
-    /// No adds. Takes no memory.
+    /// Returns an empty log. Does not allocate.
     pub fn new(alloc: Global) -> Log
         ensures { result ≡ [] }
     {
@@ -45,14 +45,14 @@ impl Log {
         }
     }
 
-    /// How many there are. O(1).
+    /// Returns the number of adds. Costs O(1).
     pub fn len(&self) -> usize
         ensures { result ≡ length self.now }
     {
         self.row.len()
     }
 
-    /// The adds with one more behind them. O(log n) in time and memory.
+    /// Returns the log with `added` appended. Costs O(log n) time and memory.
     pub fn with(&self, added: Added) -> Result<Log, AllocError>
         ensures { IfOk result (λ log. log ≡ self.now ++ added ∷ []) }
     {
@@ -63,7 +63,7 @@ impl Log {
         })
     }
 
-    /// The same adds. O(1): up to 128 are copied, and more are shared.
+    /// Returns an equal log. Costs O(1): up to 128 adds are copied, and more are shared.
     pub fn copy(&self) -> Result<Log, AllocError>
         ensures { IfOk result (λ log. log ≡ self.now) }
     {
@@ -74,7 +74,7 @@ impl Log {
         })
     }
 
-    /// The adds in one piece of memory. O(n).
+    /// Returns the adds as a contiguous list. Costs O(n).
     pub fn to_list(&self) -> Result<Vec<Added>, AllocError>
         ensures { IfOk result (λ list. list.items ≡ self.now) }
     {
@@ -89,7 +89,7 @@ impl Log {
         Ok(list)
     }
 
-    /// The adds of other values than these. O(n log m) for n adds and m values.
+    /// Returns the adds whose values are not in `values`. Costs O(n log m) for n adds and m values.
     pub fn beyond(&self, values: &[i64]) -> Result<Log, AllocError>
         requires { IsAscending values.now }
         ensures was { IfOk result (λ log. (a : Added) → Contains log a → Contains self.now a) }
@@ -105,7 +105,7 @@ impl Log {
         Ok(log)
     }
 
-    // The adds with one more behind them, if that is one of another value than these.
+    // Returns the log with `added` appended, unless its value is in `values`.
     fn with_other(self, added: &Added, values: &[i64]) -> Result<Log, AllocError>
         requires { IsAscending values.now }
         ensures { IfOk result (IsWithOther self added.now values.now) }

@@ -1,10 +1,10 @@
-//! Searches of members, which ascend.
+//! Searches in members, which ascend.
 ghost use Rattle.std.specs.Prelude.{◌≡◌, ◌↔◌, ◌⊎◌, ◌<◌, ℤ, None, IfSome, IsTrue, length};
 ghost use Rattle.std.specs.List.{Contains};
 ghost use Rattle.values.specs.Members.{IsAscending};
 ghost use Rattle.set_chains.specs.Chains.{IsWithin};
 
-/// Whether the value is a member. O(log n) in the members.
+/// Returns whether the value is a member. Costs O(log n) in the members.
 pub fn has(members: &[i64], value: &i64) -> bool
     requires { IsAscending members.now }
     ensures { IsTrue result ↔ Contains members.now value.now }
@@ -12,14 +12,14 @@ pub fn has(members: &[i64], value: &i64) -> bool
     members.binary_search(value).is_ok()
 }
 
-// Whether both are one value.
+// Returns whether both are the same value.
 fn is_same(member: &i64, value: &i64) -> bool
     ensures { IsTrue result ↔ (member.now ≡ value.now) }
 {
     *member == *value
 }
 
-// Whether the value is the member at this place.
+// Returns whether the value is the member at index `at`.
 fn is_at(members: &[i64], at: usize, value: &i64) -> bool
     ensures there { IsTrue result → Contains members.now value.now }
     ensures within { IsTrue result → at < length members.now }
@@ -27,7 +27,7 @@ fn is_at(members: &[i64], at: usize, value: &i64) -> bool
     at < members.len() && is_same(&members[at], value)
 }
 
-// The place behind the value, if it is a member. O(1) if the value is at this place, else O(log n) in the members.
+// Returns the index after the value, if it is a member. Costs O(1) if the value is at index `at`, and otherwise O(log n) in the members.
 fn place_behind(members: &[i64], at: usize, value: &i64) -> Option<usize>
     requires { IsAscending members.now }
     ensures found { IfSome result (λ _. Contains members.now value.now) }
@@ -42,7 +42,8 @@ fn place_behind(members: &[i64], at: usize, value: &i64) -> Option<usize>
     }
 }
 
-/// Whether each of these is among those. O(these), and O(log n) in those for each one that is not next to the last.
+/// Returns whether `those` contains each value of `these`. Costs O(`these`), and O(log n) in `those` for each value that does not directly
+/// follow the last one there.
 pub fn is_within(these: &[i64], those: &[i64]) -> bool
     requires { IsAscending those.now }
     ensures { IsTrue result ↔ IsWithin these.now those.now }
@@ -57,7 +58,7 @@ pub fn is_within(these: &[i64], those: &[i64]) -> bool
     true
 }
 
-// The place behind the value among the first ones, or this place if it is among the second ones alone.
+// Returns the index after the value in `first`, or `at` if only `second` contains the value.
 fn place_in_either(first: &[i64], second: &[i64], at: usize, value: &i64) -> Option<usize>
     requires first { IsAscending first.now }
     requires second { IsAscending second.now }
@@ -70,8 +71,8 @@ fn place_in_either(first: &[i64], second: &[i64], at: usize, value: &i64) -> Opt
     }
 }
 
-/// Whether each of these is among the first or the second ones. O(these), and O(log n) in the others for each one that is not next to
-/// the last among the first ones.
+/// Returns whether each value of `these` is in `first` or `second`. Costs O(`these`). A value that does not directly follow, in `first`, the
+/// value found there before it also costs O(log n) in `first` and `second`.
 pub fn is_covered(these: &[i64], first: &[i64], second: &[i64]) -> bool
     requires first { IsAscending first.now }
     requires second { IsAscending second.now }

@@ -1,4 +1,4 @@
-//! Questions about the facts.
+//! Questions about the known facts.
 ghost use Rattle.std.specs.Prelude.{◌≡◌, ◌≢◌, ◌↔◌, ◌⊎◌, ◌<◌, ◌≤◌, ℕ, ℤ, Some, None, IsTrue, IfSome, IfOk, OnOk, length, take, drop};
 ghost use Rattle.std.specs.List.{Contains};
 ghost use Rattle.values.specs.Members.{IsAscending};
@@ -17,15 +17,15 @@ use values::Members;
 /// The place of an answer in the chain.
 #[derive(Clone, Copy)]
 pub enum Place {
-    /// Nowhere: the read cannot answer so.
+    /// The answer has no place: the read cannot have it.
     Nowhere,
-    /// Where a read has answered the same before.
+    /// A read has had the same answer before.
     Known,
-    /// At this place, behind all before it.
+    /// The answer belongs at this index, after all earlier answers.
     Behind(usize),
 }
 
-/// The open operation with this id, if there is one. O(open operations).
+/// Returns the open operation `id`, if there is one. Costs O(open operations).
 pub fn pending_of(pending: &[Pending], id: u32) -> Option<Pending>
     ensures found { IfSome result (λ p. Contains pending.now p × (p.id ≡ id)) }
     ensures none { result ≡ None → (p : Pending) → Contains pending.now p → p.id ≢ id }
@@ -38,7 +38,7 @@ pub fn pending_of(pending: &[Pending], id: u32) -> Option<Pending>
     None
 }
 
-// Whether the operation adds the value and has another id than this.
+// Returns whether the operation adds the value and its id is not `but`.
 fn adds(call: &Pending, value: &i64, but: u32) -> bool
     ensures { IsTrue result ↔ ((call.now.id ≢ but) × (call.now.call ≡ Call.Add value.now)) }
 {
@@ -48,7 +48,7 @@ fn adds(call: &Pending, value: &i64, but: u32) -> bool
     }
 }
 
-// The lesser of both moments. The first may be none.
+// Returns the lesser of both moments. The first one may be `None`.
 fn earlier(first: Option<u64>, moment: u64) -> u64
     ensures { result ≡ earlier_of first moment }
 {
@@ -58,7 +58,7 @@ fn earlier(first: Option<u64>, moment: u64) -> u64
     }
 }
 
-// The moment at which the first open add of the value was invoked, apart from this operation. O(open operations).
+// Returns the moment at which the first open add of the value was invoked, except for operation `but`. Costs O(open operations).
 fn first_pending(pending: &[Pending], value: &i64, but: u32) -> Option<u64>
     ensures found { IfSome result (λ moment. HasPendingAdd pending.now but value.now moment) }
     ensures least { (moment : ℕ) → HasPendingAdd pending.now but value.now moment → IsNoLater result moment }
@@ -72,7 +72,7 @@ fn first_pending(pending: &[Pending], value: &i64, but: u32) -> Option<u64>
     first
 }
 
-// Whether one of these answers was returned before the moment. O(answers).
+// Returns whether one of the answers was returned before the moment. Costs O(answers).
 fn has_before(answers: &[Answered], moment: u64) -> bool
     ensures { IsTrue result ↔ HasBefore answers.now moment }
 {
@@ -84,7 +84,7 @@ fn has_before(answers: &[Answered], moment: u64) -> bool
     false
 }
 
-// The place behind the last answer that has at most this many members. O(answers behind it).
+// Returns the index after the last answer with at most `many` members. Costs O(answers after it).
 fn first_longer(answers: &[Answered], many: usize) -> usize
     ensures within { result ≤ length answers.now }
     ensures more { (a : Answered) → Contains (drop result answers.now) a → many < length a.members }
@@ -98,7 +98,7 @@ fn first_longer(answers: &[Answered], many: usize) -> usize
     at
 }
 
-// The place of the first answer that has the value. O(answers behind it), each with the logarithm of its members.
+// Returns the index of the first answer that contains the value. Costs O(log n) in the members of each answer from this one on.
 fn first_with(answers: &[Answered], value: &i64) -> usize
     ensures within { result ≤ length answers.now }
     ensures with { (a : Answered) → Contains (drop result answers.now) a → Contains a.members value.now }
@@ -112,7 +112,8 @@ fn first_with(answers: &[Answered], value: &i64) -> usize
     at
 }
 
-/// The place of these members in the chain, for a read that was invoked at this moment. O(members, answers that have more).
+/// Returns the place of these members in the chain, for a read that was invoked at moment `since`. Costs O(members + answers with more
+/// members).
 pub fn place_of(answers: &[Answered], members: &Members, since: u64) -> Place
     ensures { AreNested answers.now → IsPlaced answers.now since members.now result }
 {
@@ -141,7 +142,7 @@ pub fn place_of(answers: &[Answered], members: &Members, since: u64) -> Place
     }
 }
 
-// Whether the moment comes before the least one so far, if there is one.
+// Returns whether the moment comes before `least`, if there is a least one.
 fn is_earlier(moment: u64, least: &Option<u64>) -> bool
     ensures { IsTrue result ↔ IsBefore moment least.now }
 {
@@ -151,7 +152,8 @@ fn is_earlier(moment: u64, least: &Option<u64>) -> bool
     }
 }
 
-// The lesser of the first moment so far and of that at which the add was done, if it was and has another value than the members.
+// Returns the lesser of `first` and the moment at which the add returned. The add counts only if it has returned and `members` does not
+// contain its value.
 fn first_with_add(added: &Added, members: &[i64], first: Option<u64>) -> Option<u64>
     requires { IsAscending members.now }
     ensures { IsFirstWith added.now members.now first result }
@@ -168,7 +170,7 @@ fn first_with_add(added: &Added, members: &[i64], first: Option<u64>) -> Option<
     Some(by)
 }
 
-// The moment at which the first of these adds was done that has another value than the members. O(n log m) for n adds and m members.
+// Returns the first moment at which an add returned whose value is not in `members`. Costs O(n log m) for n adds and m members.
 fn first_beyond(log: &[Added], members: &[i64]) -> Option<u64>
     requires { IsAscending members.now }
     ensures found { IfSome result (λ moment. (a : Added) × IsDoneBeyond log.now members.now a moment) }
@@ -181,14 +183,14 @@ fn first_beyond(log: &[Added], members: &[i64]) -> Option<u64>
     first
 }
 
-// Whether the add is of this value.
+// Returns whether the add is one of this value.
 fn is_of(added: &Added, value: &i64) -> bool
     ensures { IsTrue result ↔ (added.now.value ≡ value.now) }
 {
     added.value == *value
 }
 
-// The moment at which the first logged add of the value was invoked. O(adds).
+// Returns the moment at which the first logged add of the value was invoked. Costs O(adds).
 fn first_logged(log: &[Added], value: &i64) -> Option<u64>
     ensures found { IfSome result (λ moment. HasLogged log.now value.now moment) }
     ensures least { (moment : ℕ) → HasLogged log.now value.now moment → IsNoLater result moment }
@@ -202,7 +204,8 @@ fn first_logged(log: &[Added], value: &i64) -> Option<u64>
     first
 }
 
-// The moment at which the first add of the value was invoked that has not failed, apart from this operation. O(adds).
+// Returns the moment at which the first add of the value was invoked, except for operation `but`. Adds that have failed do not count. Costs
+// O(adds).
 fn first_add(log: &[Added], pending: &[Pending], value: &i64, but: u32) -> Option<u64>
     ensures found { IfSome result (λ moment. HasLogged log.now value.now moment
         ⊎ HasPendingAdd pending.now but value.now moment) }
@@ -216,7 +219,7 @@ fn first_add(log: &[Added], pending: &[Pending], value: &i64, but: u32) -> Optio
     }
 }
 
-// Whether the moment is at most the limit, if there is one.
+// Returns whether the moment is at most the limit. Without a limit every moment is.
 fn is_timely(moment: u64, limit: &Option<u64>) -> bool
     ensures { IsTrue result ↔ IsWithinLimit moment limit.now }
 {
@@ -226,7 +229,7 @@ fn is_timely(moment: u64, limit: &Option<u64>) -> bool
     }
 }
 
-// The value of the add, if it was invoked by the limit.
+// Returns the value of the add, if the add was invoked at or before the limit.
 fn timely_value(added: &Added, limit: &Option<u64>) -> Option<i64>
     ensures { (v : ℤ) → (result ≡ Some v) ↔ IsTimelyAdd added.now limit.now v }
 {
@@ -237,7 +240,7 @@ fn timely_value(added: &Added, limit: &Option<u64>) -> Option<i64>
     }
 }
 
-// The value of the operation, if it is another one than this, and an add that was invoked by the limit.
+// Returns the value of the operation, if it is an add that was invoked at or before the limit and its id is not `but`.
 fn timely_call(call: &Pending, but: u32, limit: &Option<u64>) -> Option<i64>
     ensures { (v : ℤ) → (result ≡ Some v) ↔ IsTimelyCall call.now but limit.now v }
 {
@@ -266,7 +269,7 @@ fn put(values: &mut Vec<i64>, value: Option<i64>) -> Result<(), AllocError>
     Ok(())
 }
 
-// Appends the values of the adds that were invoked by the limit.
+// Appends the values of the adds that were invoked at or before the limit.
 fn put_logged(values: &mut Vec<i64>, log: &[Added], limit: &Option<u64>) -> Result<(), AllocError>
     ensures { OnOk result ((v : ℤ) → Contains values.new.items v
         ↔ (Contains values.old.items v ⊎ HasTimelyLogged log.now limit.now v)) }
@@ -277,7 +280,7 @@ fn put_logged(values: &mut Vec<i64>, log: &[Added], limit: &Option<u64>) -> Resu
     Ok(())
 }
 
-// Appends the values of the open adds that were invoked by the limit, apart from this operation.
+// Appends the values of the open adds that were invoked at or before the limit, except for operation `but`.
 fn put_pending(
     values: &mut Vec<i64>,
     pending: &[Pending],
@@ -293,7 +296,7 @@ fn put_pending(
     Ok(())
 }
 
-// The values that have an add which was invoked by the limit, apart from this operation. O(n log n) in the adds.
+// Returns the values with an add that was invoked at or before the limit, except for operation `but`. Costs O(n log n) in the adds.
 fn timely(
     alloc: Global,
     log: &[Added],
@@ -311,7 +314,7 @@ fn timely(
     Ok(members)
 }
 
-/// The least moment at which an open operation was invoked, or this moment if that is less. O(open operations).
+/// Returns the least moment at which an open operation was invoked, or `moment` if it is less. Costs O(open operations).
 pub fn oldest(pending: &[Pending], moment: u64) -> u64
     ensures { IsLeastSince pending.now moment result }
 {
@@ -322,7 +325,7 @@ pub fn oldest(pending: &[Pending], moment: u64) -> u64
     least
 }
 
-/// The place of the last answer that was first returned before this moment, if there is one. O(answers behind it).
+/// Returns the index of the last answer that was first returned before this moment, if there is one. Costs O(answers after it).
 pub fn last_before(answers: &[Answered], moment: u64) -> Option<usize>
     ensures { IfSome result (λ at. IsLastBefore answers.now moment at) }
 {
@@ -337,8 +340,8 @@ pub fn last_before(answers: &[Answered], moment: u64) -> Option<usize>
 }
 
 impl Known {
-    /// The place of the answer in the chain, or `Nowhere` if the read with this id, which was invoked at this moment, cannot answer so.
-    /// O(members, answers that have more, n log n in the logged adds).
+    /// Returns the place of the answer in the chain, for read `but`, which was invoked at moment `since`. `Nowhere` if the read cannot have
+    /// this answer. Costs O(members + answers with more members + n log n) for n logged adds.
     pub fn answer(&self, but: u32, since: u64, members: &Members) -> Result<Place, AllocError>
         ensures placed { IfOk result (λ place. AreNested self.now.answers.items
             → IsAnswered (facts_of self.now) but since members.now place) }
@@ -362,8 +365,8 @@ impl Known {
         }
     }
 
-    /// Whether the open add of this value with this id may fail. O(log n) in the members of the base and of the last answer. If the last
-    /// answer has the value and the base has not, O(answers that have it, logged adds).
+    /// Returns whether the open add `but` of this value may fail. Costs O(log n) in the members of the base and of the last answer. If the
+    /// last answer contains the value and the base does not, it also costs O(answers that contain it + logged adds).
     pub fn spares(&self, but: u32, value: &i64) -> Result<bool, AllocError>
         ensures { IfOk result (λ spares. AreNested self.now.answers.items
             → IsTrue spares ↔ AreSpared (facts_of self.now) but value.now) }

@@ -14,14 +14,14 @@ use Rattle.wide_unordered_queue.specs.declared.judged.WideUnorderedQueue.{WideUn
 use Rattle.wide_unordered_queue.specs.Facts.{facts_of}
 use Rattle.wide_unordered_queue.specs.Kept.{StandBy}
 
--- an ok and a fail can kill
+-- an ok or a fail can be illegal
 abbrev pub kills : EventKind → Bool
 kills Ok = true
 kills Fail = true
 kills Invoke = false
 kills Info = false
 
--- after an ok and a fail, whether the history with it is linearizable. An invocation and a crash kill nothing
+-- after an ok and a fail, whether the history with it is linearizable. An invocation and a crash are always legal
 abbrev pub IsAlive : List Mark → Mark → Bool → Type 0
 IsAlive marks (Returned id answer) alive =
     IsTrue alive ↔ IsLinearizable unordered_queue (marks ++ Returned id answer ∷ [])
@@ -29,7 +29,7 @@ IsAlive marks (Failed id) alive = IsTrue alive ↔ IsLinearizable unordered_queu
 IsAlive marks (Invoked id op) alive = IsTrue alive
 IsAlive marks (Crashed id) alive = IsTrue alive
 
--- the prepared facts, or the present ones if nothing is prepared
+-- the prepared change, or the due one if none is prepared
 abbrev pub next_of : Option Change → Option Change → Option Change
 next_of None due = due
 next_of (Some change) due = Some change

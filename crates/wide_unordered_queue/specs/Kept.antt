@@ -1,4 +1,4 @@
--- Invariant: changes of the facts, and the histories that facts with a change that is due stand for
+-- Invariant: changes of the facts, and the histories of facts with a change that is due
 use Rattle.std.specs.Prelude.{Option, Some, None, List, [], ◌∷◌, ◌++◌}
 use Rattle.models.specs.Objects.{unordered_queue}
 use Rattle.events.specs.Events.{Mark}
@@ -15,23 +15,23 @@ after (Invokes id call) f = with_call id call f
 after (Leaves id) f = without id f
 after (Lowers id v least) f = without_value id v least f
 
--- the history is linearizable no longer
+-- the history is well-formed, and not linearizable
 abbrev pub IsDead : List Mark → Type 0
 IsDead marks = AreWellFormed marks × (¬ IsLinearizable unordered_queue marks)
 
--- the facts are those of the history once the change is carried out
+-- the facts after the change are those of the history; after Dies, the history is dead
 abbrev pub StandAfter : Change → Facts → List Mark → Type 0
 StandAfter Dies f marks = IsDead marks
 StandAfter (Invokes id call) f marks = AreFacts (with_call id call f) marks
 StandAfter (Leaves id) f marks = AreFacts (without id f) marks
 StandAfter (Lowers id v least) f marks = AreFacts (without_value id v least f) marks
 
--- the same, where a change may be due
+-- the facts after the due change, if there is one, are those of the history
 abbrev pub StandBy : Option Change → Facts → List Mark → Type 0
 StandBy None f marks = AreFacts f marks
 StandBy (Some change) f marks = StandAfter change f marks
 
--- the change is what the mark makes of the facts, of whatever history they are
+-- the change is that of the mark, for each history of these facts
 abbrev pub IsTakenBy : Facts → Mark → Change → Type 0
 IsTakenBy f mark change =
     (marks : List Mark) → AreFacts f marks → MayFollow marks mark → StandAfter change f (marks ++ mark ∷ [])

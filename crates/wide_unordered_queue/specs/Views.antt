@@ -1,4 +1,4 @@
--- Promise: a queue that is judged, seen as the histories that it stands for
+-- Promise: a queue that is judged, seen as its histories
 use Rattle.std.specs.Prelude.{Bool, true, false}
 use Rattle.linspec.specs.Ends.{Count}
 use Rattle.judging.specs.declared.step.Step.{Step}
@@ -9,11 +9,11 @@ use Rattle.wide_unordered_queue.specs.Facts.{facts_of}
 use Rattle.wide_unordered_queue.specs.Kept.{StandBy}
 use Rattle.wide_unordered_queue.specs.Judges.{next_of}
 
--- nothing is counted, so that there is never more than a budget
+-- the count of a queue without an order, which is never more than a budget
 abbrev pub never_more : Count
 never_more marks n = ⊥
 
--- the step of an event after which the history is linearizable, or is not
+-- Alive after an event if the history is linearizable, else Dead
 abbrev pub step_by : Bool → Step
 step_by true = Alive
 step_by false = Dead

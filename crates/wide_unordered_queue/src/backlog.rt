@@ -7,7 +7,7 @@ use persistent::Row;
 use std::alloc::{AllocError, Global};
 use std::marker::Model;
 
-/// Values, ascending, each as often as its enqueues exceed its dequeues. A copy shares all values except up to 128 of them.
+/// Ascending values. Each is repeated as often as its enqueues exceed its dequeues. A copy of more than 128 values shares them.
 #[derive(Drop)]
 pub struct Backlog {
     alloc: Global,
@@ -26,7 +26,7 @@ impl Model for Backlog {
 }
 
 impl Backlog {
-    /// No values. Takes no memory.
+    /// Returns an empty backlog. Does not allocate.
     pub fn new(alloc: Global) -> Backlog
         ensures { result ≡ [] }
     {
@@ -36,7 +36,7 @@ impl Backlog {
         }
     }
 
-    // The number of values that are at most `value`, which is the place behind them.
+    // Returns the number of values that are at most `value`, which is the index after them.
     fn place_behind(&self, value: i64) -> usize
         ensures within { result ≤ length self.now }
         ensures before { (k : ℕ) (d : ℤ) → result ≡ k + 1 → get_or self.now k d ≤ℤ value }
@@ -52,7 +52,7 @@ impl Backlog {
         self.row.place_of(value + 1)
     }
 
-    /// How often the value is in. O(log n).
+    /// Returns how often `value` is contained. Costs O(log n).
     pub fn times(&self, value: i64) -> usize
         ensures { result ≡ times_in value self.now }
     {
@@ -61,7 +61,7 @@ impl Backlog {
         to.saturating_sub(from)
     }
 
-    /// The values with `value` once more. O(log n) in time and memory.
+    /// Returns the backlog with `value` once more. Costs O(log n) time and memory.
     pub fn with(&self, value: i64) -> Result<Backlog, AllocError>
         ensures { IfOk result (λ more. more ≡ with_one value self.now) }
     {
@@ -73,14 +73,14 @@ impl Backlog {
         })
     }
 
-    // Whether the value is at this place.
+    // Returns whether the value is at index `at`.
     fn is_at(&self, at: usize, value: i64) -> bool
         ensures { IsTrue result ↔ ((at < length self.now) × (get_or self.now at value ≡ value)) }
     {
         at < self.row.len() && self.row.get(at) == value
     }
 
-    /// The values with `value` once less, if it is in. O(log n) in time and memory.
+    /// Returns the backlog with `value` once less, if it is contained. Costs O(log n) time and memory.
     pub fn without(&self, value: i64) -> Result<Backlog, AllocError>
         ensures { IfOk result (λ less. less ≡ without_one value self.now) }
     {
@@ -96,7 +96,7 @@ impl Backlog {
         Ok(same)
     }
 
-    /// The same values. O(1): up to 128 are copied, and more are shared.
+    /// Returns an equal backlog. Costs O(1): up to 128 values are copied, and more are shared.
     pub fn copy(&self) -> Result<Backlog, AllocError>
         ensures { IfOk result (λ other. other ≡ self.now) }
     {

@@ -1,4 +1,4 @@
-//! Changes of the facts by events.
+//! Changes of the known facts by events.
 ghost use Rattle.std.specs.Prelude.{◌≡◌, ◌≢◌, OnOk, OnErr};
 ghost use Rattle.std.specs.List.{Contains};
 ghost use Rattle.models.specs.Objects.{answer_of};
@@ -13,17 +13,17 @@ use events::EventKind;
 use models::{Op, Part};
 use std::alloc::AllocError;
 
-/// A change of the facts by an event.
+/// A change of the known facts by an event.
 #[derive(Clone, Copy)]
 pub enum Change {
-    /// The history is linearizable no longer.
+    /// The history is not linearizable any more.
     Dies,
-    /// An operation with this id and call is invoked.
+    /// An operation with this id and this call is invoked.
     Invokes(u32, Call),
-    /// The operation with this id is open no longer, and the facts are the same.
+    /// The operation with this id is not open any more, and the other facts do not change.
     Leaves(u32),
-    /// The operation with this id is open no longer, and takes one of the value out. Open enqueues of it with this least or a greater one are
-    /// lowered.
+    /// The operation with this id is not open any more, and removes the value once. Open enqueues of the value whose least excess is at
+    /// least this number are lowered.
     Lowers(u32, i64, usize),
 }
 
@@ -64,7 +64,7 @@ impl Known {
         Ok(())
     }
 
-    /// Carries a change out. On `AllocError` all stays as it was. O(open operations, log n) for n values.
+    /// Carries out a change. On `AllocError` nothing has changed. Costs O(open operations + log n) for n values.
     pub fn carry_out(&mut self, change: &Change) -> Result<(), AllocError>
         ensures ok { OnOk result (facts_of self.new ≡ after change.now (facts_of self.old)) }
         ensures err { OnErr result (facts_of self.new ≡ facts_of self.old) }
@@ -80,7 +80,7 @@ impl Known {
         }
     }
 
-    // The change by an invocation.
+    // Returns the change by an invocation.
     fn after_invoke(&self, id: u32, op: &Op) -> Change
         ensures taken { IsTakenBy (facts_of self.now) (Invoked id op.now) result }
         ensures lives { result ≢ Change.Dies }
@@ -88,7 +88,7 @@ impl Known {
         Change::Invokes(id, call_of(op.name, &op.part))
     }
 
-    // The change by the ok of a dequeue.
+    // Returns the change by the ok of a dequeue.
     fn after_dequeue(&self, call: &Pending, part: &Part) -> Change
         ensures { call.now.call ≡ Call.Dequeue → Contains self.now.pending.items call.now
             → IsTakenBy (facts_of self.now) (Returned call.now.id (answer_of part.now)) result }
@@ -103,7 +103,7 @@ impl Known {
         Change::Lowers(call.id, *value, times)
     }
 
-    // The change by an ok.
+    // Returns the change by an ok.
     fn after_ok(&self, id: u32, part: &Part) -> Change
         ensures { IsTakenBy (facts_of self.now) (Returned id (answer_of part.now)) result }
     {
@@ -117,7 +117,7 @@ impl Known {
         }
     }
 
-    // The change by a fail.
+    // Returns the change by a fail.
     fn after_fail(&self, id: u32) -> Change
         ensures { IsTakenBy (facts_of self.now) (Failed id) result }
     {
@@ -133,7 +133,7 @@ impl Known {
         Change::Lowers(id, value, call.least)
     }
 
-    // The change by an info.
+    // Returns the change by an info.
     fn after_info(&self, id: u32) -> Change
         ensures taken { IsTakenBy (facts_of self.now) (Crashed id) result }
         ensures lives { result ≢ Change.Dies }
@@ -141,7 +141,7 @@ impl Known {
         Change::Leaves(id)
     }
 
-    /// The change by an event of the operation with this id. The part of an ok is the answer. O(open operations, log n) for n values.
+    /// Returns the change by an event of operation `id`. The part of an ok is the answer. Costs O(open operations + log n) for n values.
     pub fn after_event(&self, id: u32, kind: EventKind, op: &Op) -> Change
         ensures taken { IsTakenBy (facts_of self.now) (mark_by_act id id (act_by kind op.now)) result }
     {

@@ -1,4 +1,4 @@
-//! Queues without an order that are judged live.
+//! The judge of an unordered queue's history, event by event.
 ghost use Rattle.std.specs.Prelude.{◌≡◌, ◌≢◌, ◌↔◌, List, Some, None, OnOk, OnErr, IfOk, IsTrue};
 ghost use Rattle.models.specs.Objects.{unordered_queue};
 ghost use Rattle.events.specs.Events.{act_by, mark_by_act, Mark};
@@ -16,39 +16,40 @@ use judging::Step;
 use models::Op;
 use std::alloc::{AllocError, Global};
 
-/// The history of one queue without an order, judged as its events come. It is linearizable exactly if each done dequeue has an enqueue of its
-/// own (`bag_matches`). Nothing branches, so nothing is counted, and no answer is unknown, whether values are equal or not.
+/// The history of one unordered queue, judged event by event. It is linearizable if and only if each dequeue that has returned has an
+/// enqueue of its own (`bag_matches`). There are no alternatives to try, so the budget counts nothing, and no answer is unknown, even if
+/// values are equal.
 ///
-/// An event can be prepared and then committed. `prepare` may run out of memory, and changes nothing until `commit`, which takes no
-/// memory. A second `prepare` replaces the first.
+/// An event is first prepared and then committed. `prepare` may run out of memory, and changes nothing until `commit`, which does not
+/// allocate. A second `prepare` replaces the first one.
 ///
-/// Only facts that a later event may need are kept: the open operations, and the values that were enqueued more often than dequeued.
+/// Only facts that a later event may need are stored: the open operations, and the values that were enqueued more often than dequeued.
 #[derive(Drop)]
 pub struct WideUnorderedQueue {
     /// The key's budget, which no queue exceeds.
     budget: u32,
     known: Known,
-    /// The change by the last event, which the next one carries out.
+    /// The change by the last event, which the next event carries out.
     due: Option<Change>,
     /// The prepared change.
     next: Option<Change>,
 }
 
-// Whether the change is that the history is linearizable no longer.
+// Returns whether the history is not linearizable after the change.
 fn is_dead(change: &Option<Change>) -> bool
     ensures { IsTrue result ↔ (change.now ≡ Some Dies) }
 {
     matches!(change, Some(Change::Dies))
 }
 
-// The answer of an event after which the history is linearizable, or is not.
+// Returns the answer of an event: Alive if the history is linearizable after it, and otherwise Dead.
 fn step_of(is_alive: bool) -> Step
     ensures { result ≡ step_by is_alive }
 {
     if is_alive { Step::Alive } else { Step::Dead }
 }
 
-// Whether an event of this kind can kill.
+// Returns whether an event of this kind can make the history illegal.
 fn can_kill(kind: EventKind) -> bool
     ensures { result ≡ kills kind }
 {
@@ -56,7 +57,7 @@ fn can_kill(kind: EventKind) -> bool
 }
 
 impl WideUnorderedQueue {
-    /// A history without events. Takes constant time, and no memory.
+    /// Returns the judge of a history without events. Takes constant time, and does not allocate.
     pub fn start(alloc: Global, budget: u32) -> WideUnorderedQueue
         ensures { IsStart budget (view_of result) }
     {
@@ -68,7 +69,7 @@ impl WideUnorderedQueue {
         }
     }
 
-    /// The same queue, with nothing prepared. It shares a backlog of more than 128 values. O(open operations).
+    /// Returns an equal queue with nothing prepared. It shares a backlog of more than 128 values. Costs O(open operations).
     pub fn copy(&self) -> Result<WideUnorderedQueue, AllocError>
         ensures { IfOk result (λ queue. IsCopy (view_of self.now) (view_of queue)) }
     {
@@ -97,7 +98,7 @@ impl WideUnorderedQueue {
         Ok(())
     }
 
-    // Prepares an event, and answers whether the history with it is linearizable; an invocation and an info get true.
+    // Prepares an event, and returns whether the history after it is linearizable. Returns true for an invocation and an info.
     fn judge(&mut self, id: u32, kind: EventKind, op: &Op) -> Result<bool, AllocError>
         ensures judged { JudgesNext self.old self.new (mark_by_act id id (act_by kind op.now)) result }
         ensures budget { self.new.budget ≡ self.old.budget }
@@ -114,10 +115,11 @@ impl WideUnorderedQueue {
         Ok(alive)
     }
 
-    /// Prepares an event of an operation, and gives its answer, which is never Over. The id is the index of the operation's
-    /// invocation: new for an invocation, else that of an open operation. The part of an ok is the answer. An invocation and an info are
-    /// answered Alive, since they kill nothing. The history stays the same until [`commit`](Self::commit). After `AllocError` no commit
-    /// must follow. Another prepared event is dropped. O(open operations, log n) for n values that were enqueued more often than dequeued.
+    /// Prepares an event of an operation, and returns its answer, which is never Over. `id` is the index of the operation's invocation: a
+    /// new one for an invocation, and otherwise that of an open operation. The part of an ok is the answer. Returns Alive for an invocation
+    /// and an info, since they never make a history illegal. Until [`commit`](Self::commit) the queue represents the same histories. Do not
+    /// call `commit` after `AllocError`. Drops another prepared event. Costs O(open operations + log n) for n values that were enqueued
+    /// more often than dequeued.
     pub fn prepare(&mut self, id: u32, kind: EventKind, op: &Op) -> Result<Step, AllocError>
         ensures { Prepares (view_of self.old) (view_of self.new) never_more unordered_queue (mark_by id kind op.now) result }
     {
@@ -125,7 +127,7 @@ impl WideUnorderedQueue {
         Ok(step_of(alive))
     }
 
-    /// Carries out the prepared event, if there is one. It takes no memory and cannot fail.
+    /// Carries out the prepared event, if there is one. Does not allocate and cannot fail.
     pub fn commit(&mut self)
         ensures { Commits (view_of self.old) (view_of self.new) }
     {
@@ -134,8 +136,8 @@ impl WideUnorderedQueue {
         }
     }
 
-    /// An event of an operation: [`prepare`](Self::prepare) and [`commit`](Self::commit) in one. On `AllocError` the history stays the
-    /// same.
+    /// Observes an event of an operation. Does the same as [`prepare`](Self::prepare) and [`commit`](Self::commit). After `AllocError` the
+    /// queue represents the same histories as before.
     pub fn observe(&mut self, id: u32, kind: EventKind, op: &Op) -> Result<Step, AllocError>
         ensures { Observes (view_of self.old) (view_of self.new) never_more unordered_queue (mark_by id kind op.now) result }
     {
@@ -144,7 +146,7 @@ impl WideUnorderedQueue {
         Ok(step)
     }
 
-    /// How many steps were made so far: none, since nothing is tried.
+    /// Returns the number of steps so far: 0, since no operation is tried.
     pub fn applied(&self) -> u64
         ensures { result ≡ (view_of self.now).applied }
     {

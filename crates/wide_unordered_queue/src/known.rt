@@ -1,4 +1,4 @@
-//! The known facts of the history of a queue.
+//! The known facts about the history of an unordered queue.
 ghost use Rattle.std.specs.Prelude.{◌≡◌, IfOk};
 ghost use Rattle.wide_unordered_queue.specs.Facts.{facts_of, no_facts};
 
@@ -6,8 +6,8 @@ use crate::backlog::Backlog;
 use crate::pending::Pending;
 use std::alloc::{AllocError, Global};
 
-/// The known facts of a history: the open operations, and the values that were enqueued more often than dequeued. An enqueue that is open,
-/// is done or has crashed counts. A dequeue counts once it is done.
+/// The known facts of a history: the open operations, and the values that were enqueued more often than dequeued. An enqueue counts if it
+/// is open, has returned or has crashed. A dequeue counts if it has returned.
 #[derive(Drop)]
 pub struct Known {
     pub alloc: Global,
@@ -16,7 +16,7 @@ pub struct Known {
 }
 
 impl Known {
-    /// The facts of a history without events. O(1), and no memory.
+    /// Returns the facts of a history without events. Costs O(1), and does not allocate.
     pub fn new(alloc: Global) -> Known
         ensures { facts_of result ≡ no_facts }
     {
@@ -27,7 +27,7 @@ impl Known {
         }
     }
 
-    /// The same facts. O(open operations).
+    /// Returns equal facts. Costs O(open operations).
     pub fn copy(&self) -> Result<Known, AllocError>
         ensures { IfOk result (λ known. facts_of known ≡ facts_of self.now) }
     {

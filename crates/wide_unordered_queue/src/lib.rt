@@ -1,6 +1,6 @@
-//! Judges the history of one queue without an order as its events come, without ends: by how often each value was enqueued and dequeued.
+//! The judge of one unordered queue's history, event by event. It uses how often each value was enqueued and dequeued, and no ends.
 //!
-//! A call takes memory only where its result can be `AllocError`.
+//! A call allocates only if its result can be `AllocError`.
 #![tactic(auto)]
 
 mod backlog;

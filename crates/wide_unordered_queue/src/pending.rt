@@ -9,16 +9,16 @@ use std::alloc::{AllocError, Global};
 /// A call of a queue.
 #[derive(Clone, Copy, Debug, PartialEq, Eq)]
 pub enum Call {
-    /// It puts the value in.
+    /// The call inserts this value.
     Enqueue(i64),
-    /// It takes a value out.
+    /// The call removes a value.
     Dequeue,
     /// A queue has no such operation.
     Other,
 }
 
-/// An open operation: its id and its call. An enqueue also has by how much its value was enqueued more often than dequeued, at the least
-/// since the operation was invoked.
+/// An open operation: its id and its call. An enqueue also has the least excess of its value since the operation was invoked. The excess is
+/// the number of enqueues of the value minus the number of its dequeues.
 #[derive(Clone, Copy)]
 pub struct Pending {
     pub id: u32,
@@ -26,7 +26,7 @@ pub struct Pending {
     pub least: usize,
 }
 
-/// The call of an operation of this name and part. O(1).
+/// Returns the call of an operation with this name and part. Costs O(1).
 pub fn call_of(name: Name, part: &Part) -> Call
     ensures { result ≡ call_by name part.now }
 {
@@ -37,7 +37,7 @@ pub fn call_of(name: Name, part: &Part) -> Call
     }
 }
 
-/// The open operation with this id, if there is one. O(open operations).
+/// Returns the open operation `id`, if there is one. Costs O(open operations).
 pub fn pending_of(pending: &[Pending], id: u32) -> Option<Pending>
     ensures found { IfSome result (λ p. Contains pending.now p × (p.id ≡ id)) }
     ensures none { result ≡ None → (p : Pending) → Contains pending.now p → p.id ≢ id }
@@ -50,14 +50,14 @@ pub fn pending_of(pending: &[Pending], id: u32) -> Option<Pending>
     None
 }
 
-/// Removes the operation. O(open operations).
+/// Removes operation `id`. Costs O(open operations).
 pub fn drop_pending(pending: &mut Vec<Pending>, id: u32)
     ensures { pending.new.items ≡ filter (is_other id) pending.old.items }
 {
     pending.retain(|call| call.id != id);
 }
 
-// The operation, with its least number less by one if it enqueues the value and that number is at least `least`.
+// Returns the operation. If it enqueues the value and its least excess is at least `least`, this excess is lowered by one.
 fn lower(call: &Pending, value: i64, least: usize) -> Pending
     ensures { result ≡ lowered value least call.now }
 {
@@ -74,7 +74,7 @@ fn lower(call: &Pending, value: i64, least: usize) -> Pending
     }
 }
 
-/// The same operations, each lowered. O(open operations).
+/// Returns the operations, each after [`lower`]. Costs O(open operations).
 pub fn all_lowered(
     alloc: Global,
     pending: &[Pending],

@@ -6,8 +6,9 @@ use Rattle.models.specs.declared.operation.Op.{Op}
 use Rattle.models.specs.declared.finding.Found.{Found}
 use Rattle.models.specs.Objects.{IsOneOf}
 use Rattle.models.proofs.Apart.{register_alone, cas_register_alone, mutex_alone, queue_alone, set_alone}
+use Rattle.objects.proofs.Alone.{rules_at_most_one}
 use Rattle.kinds.specs.declared.model_kind.ModelKind.{ModelKind}
-use Rattle.kinds.specs.declared.model_kind.ModelKind.TheVariants.{Register, CasRegister, Mutex, FifoQueue, Set, UnorderedQueue, WideRegister, WideCasRegister, WideSet, WideFifoQueue, WideUnorderedQueue}
+use Rattle.kinds.specs.declared.model_kind.ModelKind.TheVariants.{Register, CasRegister, Mutex, FifoQueue, Set, UnorderedQueue, WideRegister, WideCasRegister, WideSet, WideFifoQueue, WideUnorderedQueue, Own}
 use Rattle.kinds.specs.declared.any_state.AnyState.{AnyState}
 use Rattle.kinds.specs.AnyState.{any, outcomes_of}
 use Rattle.kinds.specs.Kinds.{table_of, object_of}
@@ -38,6 +39,7 @@ one_at_most WideCasRegister ne op s = few ((table_of WideCasRegister).apply op s
 one_at_most WideSet ne op s = few ((table_of WideSet).apply op s) (set_alone op s 1 (omega arith)).0
 one_at_most WideFifoQueue ne op s = few ((table_of WideFifoQueue).apply op s) (queue_alone op s 1 (omega arith)).0
 one_at_most WideUnorderedQueue ne op s = absurd (ne.1 refl)
+one_at_most (Own object) ne op s = rules_at_most_one object.now.rules op s
 
 -- a state has one form in each kind
 same_state : (kind : ModelKind) (s t : (object_of kind).State) → any kind s ≡ any kind t → s ≡ t
@@ -52,6 +54,7 @@ same_state WideCasRegister s t e = cc
 same_state WideSet s t e = cc
 same_state WideFifoQueue s t e = cc
 same_state WideUnorderedQueue s t e = cc
+same_state (Own object) s t e = cc
 
 module _ (kind : ModelKind) (s : (object_of kind).State) (c : Call) where
   -- no outcome

@@ -12,7 +12,7 @@ abbrev pub FitsIf : Found → Option Answer → Type 0
 FitsIf found None = Unit {0}
 FitsIf found (Some answer) = Fits found answer
 
--- from the state s on the calls can take place one after another, and each finds what fits its answer
+-- the calls can take place one after another from the state s, and each finds a value that fits its answer
 abbrev pub CanRun : (o : Object) → List Call → o.State → Type 0
 CanRun o [] s = Unit {0}
 CanRun o (c ∷ calls) s = (found : Found) × (t : o.State) × o.Steps s c.op found t × FitsIf found c.answer × CanRun o calls t
@@ -21,13 +21,13 @@ CanRun o (c ∷ calls) s = (found : Found) × (t : o.State) × o.Steps s c.op fo
 abbrev pub unanswered : Call → Call
 unanswered c = record { op = c.op; answer = None }
 
--- behind these the call can't take place; or it can, and only with another answer
+-- after the calls before it, the call can't take place; or it can, but only with another answer
 abbrev pub IsRejectedAfter : Object → List Call → Call → MismatchReason → Type 0
 IsRejectedAfter o before c CannotTakePlace = ¬ CanRun o (before ++ unanswered c ∷ []) o.start
 IsRejectedAfter o before c AnotherAnswer = CanRun o (before ++ unanswered c ∷ []) o.start × ¬ CanRun o (before ++ c ∷ []) o.start
 IsRejectedAfter o before c _ = ⊥
 
--- the calls before this place can take place, and the call there is rejected for this reason
+-- the calls before the place `at` can take place, and the call there is rejected for this reason
 pub record IsRejection (o : Object) (calls : List Call) (at : ℕ) (why : MismatchReason) : Type 0 where
   pub before : List Call
   pub call : Call

@@ -25,7 +25,7 @@ ids_of positions = map (λ (s : Position). s.id) positions
 abbrev pub IsBefore : List OperationStatus → ℕ → ℕ → Type 0
 IsBefore statuses y x = (index : ℕ) × (status_at statuses y ≡ Returned index) × (index < x)
 
--- no operation comes behind another one before whose invocation it has returned
+-- no operation comes after an operation that was invoked after its return
 abbrev pub AreInTime : List OperationStatus → List ℕ → Type 0
 AreInTime statuses ids = Pairwise (λ x y. ¬ IsBefore statuses y x) ids
 
@@ -43,7 +43,7 @@ AreCallsBy events statuses [] [] = Unit {0}
 AreCallsBy events statuses (id ∷ ids) (c ∷ calls) = IsCallBy events statuses id c × AreCallsBy events statuses ids calls
 AreCallsBy events statuses _ _ = ⊥
 
--- each of these is an event that speaks of an operation
+-- the id of each position is the index of an event of an operation
 abbrev pub AreThere : List Event → List Position → Type 0
 AreThere events positions = (s : Position) → Contains positions s → (op : Op) × (op_at (slice_get events s.id) ≡ Some op)
 
@@ -53,12 +53,12 @@ pub record CanRunBy (kind : ModelKind) (events : List Event) (statuses : List Op
   pub are : AreCallsBy events statuses ids calls
   pub can_run : CanRun (object_of kind) calls (object_of kind).start
 
--- the operations of a key fit
+-- the operations of a key are a legal order of the key's history
 pub record KeyFits (kind : ModelKind) (events : List Event) (statuses : List OperationStatus) (ids : List ℕ) : Type 0 where
   pub in_time : AreInTime statuses ids
   pub can_run : CanRunBy kind events statuses ids
 
--- why one does not fit behind these, none of which it precedes
+-- why the operation does not fit after those before it, if it precedes none of them
 pub record IsRejectedBy (kind : ModelKind) (events : List Event) (statuses : List OperationStatus) (before : List ℕ) (id : ℕ) (why : MismatchReason) : Type 0 where
   pub calls : List Call
   pub call : Call
@@ -71,7 +71,7 @@ abbrev pub IsMismatchFor : ModelKind → List Event → List OperationStatus →
 IsMismatchFor kind events statuses before id TooLate = (other : ℕ) × Contains before other × IsBefore statuses id other
 IsMismatchFor kind events statuses before id why = IsRejectedBy kind events statuses before id why
 
--- the first of the operations of a key that does not fit
+-- the first operation of a key that does not fit
 pub record KeyMismatch (kind : ModelKind) (events : List Event) (statuses : List OperationStatus) (positions : List Position) (mismatch : Mismatch) : Type 0 where
   pub before : List Position
   pub here : Position
@@ -86,11 +86,11 @@ pub record KeyMismatch (kind : ModelKind) (events : List Event) (statuses : List
 abbrev pub Judges : ModelKind → List Event → List OperationStatus → List Position → Option Mismatch → Type 0
 Judges kind events statuses positions found = MatchOption found (KeyFits kind events statuses (ids_of positions)) (KeyMismatch kind events statuses positions)
 
--- those of a key, in their order
+-- the positions of a key, in their order
 abbrev pub on_key : ℕ → List Position → List Position
 on_key key positions = filter (λ (s : Position). nat_eq s.key key) positions
 
--- the same operations, by their keys
+-- the positions, sorted by their keys
 pub record AreByKeys (positions sorted : List Position) : Type 0 where
   pub same : (key : ℕ) → on_key key sorted ≡ on_key key positions
   pub rising : (i j : ℕ) (d : Position) → i ≤ j → j < length sorted → (slice_index_or sorted i d).key ≤ (slice_index_or sorted j d).key
@@ -101,12 +101,12 @@ pub record FitsBefore (kind : ModelKind) (events : List Event) (statuses : List 
   pub judged : Judges kind events statuses positions first
   pub later : IfSome first (λ mismatch. place ≤ mismatch.place)
 
--- it was found before, or for a key; a place that was found before does not come before it
+-- the first mismatch: the one that was found before, or the mismatch of a key; it comes no later than the one that was found before
 pub record FirstFound (kind : ModelKind) (events : List Event) (statuses : List OperationStatus) (found : Option Mismatch) (positions : List Position) (mismatch : Mismatch) : Type 0 where
   pub one : (found ≡ Some mismatch) ⊎ ((key : ℕ) × KeyMismatch kind events statuses (on_key key positions) mismatch)
   pub later : IfSome found (λ other. mismatch.place ≤ other.place)
 
--- the finding for the first n operations, sorted by their keys, together with the earlier finding
+-- the first mismatch of the keys of the first n positions, sorted by key, and of the earlier finding
 abbrev pub FindsUpTo : ModelKind → List Event → List OperationStatus → Option Mismatch → List Position → ℕ → Option Mismatch → Type 0
 FindsUpTo kind events statuses found sorted n first =
     MatchOption first
@@ -114,7 +114,7 @@ FindsUpTo kind events statuses found sorted n first =
     (λ mismatch. FirstFound kind events statuses found sorted mismatch
     × ((i : ℕ) (d : Position) → i < n → FitsBefore kind events statuses (on_key (slice_index_or sorted i d).key sorted) mismatch.place))
 
--- the finding for all
+-- the first mismatch of all keys, and of the earlier finding
 abbrev pub FindsAll : ModelKind → List Event → List OperationStatus → Option Mismatch → List Position → Option Mismatch → Type 0
 FindsAll kind events statuses found positions first =
     MatchOption first

@@ -12,7 +12,7 @@ use Rattle.witness.specs.declared.statuses.OperationStatus.TheVariants.{NoOperat
 use Rattle.witness.specs.declared.placing.Position.{Position}
 use Rattle.witness.specs.Statuses.{status_at}
 
--- an operation with this status may be in an order; it must be in each order
+-- an operation with this status may be in an order; an operation with this status must be in each order
 abbrev pub MayBeInOrder : OperationStatus → Type 0
 MayBeInOrder NoOperation = ⊥
 MayBeInOrder Pending = Unit {0}
@@ -25,16 +25,16 @@ MustBeInOrder Pending = ⊥
 MustBeInOrder (Returned index) = Unit {0}
 MustBeInOrder Failed = ⊥
 
--- the key of an event, 0 if it has none
+-- the key of an event, or 0 if it has none
 abbrev pub key_at : Option Event → ℕ
 key_at e = unwrap_or (option_and_then key_of e) 0
 
--- these operations, with their places from n on
+-- the positions of these operations, with places from n on
 abbrev pub positions_from : List Event → ℕ → List ℕ → List Position
 positions_from events n [] = []
 positions_from events n (id ∷ ids) = record { key = key_at (slice_get events id); place = n; id = id } ∷ positions_from events (n + 1) ids
 
--- the reason for which an operation may not be next in an order, by the first test that it does not pass. Taken are the operations before it
+-- the reason why an operation may not be the next one of an order: the first test that it fails. `Taken` are the operations before it
 abbrev pub IsBarred : List OperationStatus → (ℕ → Type 0) → ℕ → MismatchReason → Type 0
 IsBarred statuses Taken id NoEvent = length statuses ≤ id
 IsBarred statuses Taken id NoInvocation = (id < length statuses) × (status_at statuses id ≡ NoOperation)
@@ -42,7 +42,7 @@ IsBarred statuses Taken id ThatFailed = status_at statuses id ≡ Failed
 IsBarred statuses Taken id Twice = Taken id
 IsBarred statuses Taken id _ = ⊥
 
--- the reason for which only these first operations of the order are placed
+-- the reason why only `ids`, the first operations of the order, are placed
 abbrev pub StopsFor : List OperationStatus → List ℕ → List ℕ → ℕ → ℕ → MismatchReason → Type 0
 StopsFor statuses order ids place id LeftOut =
     (ids ≡ order) × (place ≡ length order) × MustBeInOrder (status_at statuses id) × (¬ Contains order id)
@@ -52,12 +52,12 @@ StopsFor statuses order ids place id why = (ids ≡ take place order) × (slice_
 abbrev pub Stops : List OperationStatus → List ℕ → List ℕ → Mismatch → Type 0
 Stops statuses order ids stop = StopsFor statuses order ids stop.place stop.event stop.why
 
--- these are all, and each operation that must be in the order is among them
+-- all operations of the order are placed, and each operation that must be in the order is among them
 pub record AreAll (statuses : List OperationStatus) (order ids : List ℕ) : Type 0 where
   pub all : ids ≡ order
   pub each : (id : ℕ) → MustBeInOrder (status_at statuses id) → Contains order id
 
--- the first operations of the order, each once
+-- the first operations of the order, each once, and the reason why the others are not placed
 pub record ArePlaced (events : List Event) (statuses : List OperationStatus) (order : List ℕ) (positions : List Position) (stop : Option Mismatch) : Type 0 where
   pub ids : List ℕ
   pub front : IsPrefixOf ids order

@@ -30,11 +30,11 @@ abbrev pub status_from : OperationStatus → ℕ → List Entry → OperationSta
 status_from status id [] = status
 status_from status id (e ∷ entries) = status_from (status_after status id e) id entries
 
--- the status of an operation by these entries
+-- the status of an operation after these entries
 abbrev pub status_in : List Entry → ℕ → OperationStatus
 status_in entries id = status_from NoOperation id entries
 
--- the status at this place; there is none behind the last
+-- the status of the operation, or NoOperation after the end of the list
 abbrev pub status_at : List OperationStatus → ℕ → OperationStatus
 status_at statuses id = slice_index_or statuses id NoOperation
 
@@ -52,7 +52,7 @@ abbrev pub status_with : ℕ → (ℕ → ℕ) → Option OpEvent → OperationS
 status_with at last None status id = status
 status_with at last (Some e) status id = status_after status id (entry_by at last e)
 
--- the operation that an event of a client speaks of, and the answer that it would give
+-- the operation that an event of a client names, and the answer that the event would give
 abbrev pub op_in : Process → Body → Option Op
 op_in (Client process) (AnOp op) = Some op
 op_in _ _ = None

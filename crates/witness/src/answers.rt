@@ -12,7 +12,7 @@ use events::{Body, Event, Process};
 use models::{Answer, Op};
 use std::alloc::{AllocError, Global};
 
-/// The status of the operation with index `id`.
+/// Returns the status of the operation with index `id`.
 pub fn status_at(statuses: &[OperationStatus], id: usize) -> OperationStatus
     ensures { result ≡ status_at statuses.now id }
 {
@@ -22,7 +22,7 @@ pub fn status_at(statuses: &[OperationStatus], id: usize) -> OperationStatus
         .unwrap_or(OperationStatus::NoOperation)
 }
 
-// The operation of the event with index `id`, or `None` if the event has no operation.
+// Returns the operation of the event with index `id`, or `None` if the event has no operation.
 fn op_at(events: &[Event], id: usize) -> Option<&Op>
     ensures { option_copied result ≡ op_at (slice_get events.now id) }
 {
@@ -33,7 +33,7 @@ fn op_at(events: &[Event], id: usize) -> Option<&Op>
     }
 }
 
-// The answer of an operation with this status, or `None` if the operation has not returned.
+// Returns the answer of an operation with this status, or `None` if the operation has not returned.
 fn answer_by(events: &[Event], status: OperationStatus) -> Result<Option<Answer>, AllocError>
     ensures { IfOk result (λ answer. answer ≡ answer_by events.now status) }
 {
@@ -46,7 +46,7 @@ fn answer_by(events: &[Event], status: OperationStatus) -> Result<Option<Answer>
     }
 }
 
-// The operation with index `id`, and its answer.
+// Returns the operation with index `id`, and its answer.
 fn call_by(events: &[Event], statuses: &[OperationStatus], id: usize) -> Result<Call, AllocError>
     requires { (op : Op) × (op_at (slice_get events.now id) ≡ Some op) }
     ensures { IfOk result (IsCallBy events.now statuses.now id) }
@@ -61,7 +61,7 @@ fn call_by(events: &[Event], statuses: &[OperationStatus], id: usize) -> Result<
     })
 }
 
-/// The operations at these positions, with their answers. Costs time and memory in O(positions); members of sets are shared.
+/// Returns the operations at these positions, with their answers. Costs O(positions) time and memory. Members of sets are shared.
 pub fn calls_by(
     alloc: Global,
     events: &[Event],

@@ -1,4 +1,4 @@
-//! Whether an order shows that a history is linearizable.
+//! The test whether an order shows that a history is linearizable.
 ghost use Rattle.std.specs.Prelude.{◌≡◌, ◌↔◌, IfOk};
 ghost use Rattle.linspec.specs.Orders.{IsLinearizable, product};
 ghost use Rattle.witness.specs.declared.confirming.Confirmation.{Confirmation};
@@ -17,22 +17,22 @@ use std::alloc::{AllocError, Global};
 pub enum Confirmation {
     /// The order is an order of the history. So the history is linearizable.
     Linearizable,
-    /// The order is not an order of the history, because of this mismatch. The history may be linearizable or not.
+    /// The order is not an order of the history, because of this mismatch. The history may still be linearizable.
     NoOrder(Mismatch),
 }
 
-/// Tests whether `order` is an order of the history. `order` has the indices of invocations. If it is an order, the history is linearizable
-/// (Herlihy and Wing 1990, section 2). These are the rules:
+/// Tests whether `order`, a list of indices of invocations, is an order of the history. If it is, the history is linearizable (Herlihy and
+/// Wing 1990, section 2). These are the rules:
 ///
 /// - The operations of each key, an object of this kind, can take place one after another, with their answers.
-/// - No operation comes after one that it precedes in real time. Operations of different keys may come in any order.
-/// - An operation that has returned is in the order, and one that has failed is not. An operation that has crashed or has not completed may
-///   be left out, and then did not take place.
+/// - No operation comes after an operation that it precedes in real time. Operations of different keys may come in any order.
+/// - Each operation that has returned is in the order, and no operation that has failed. An operation that has crashed or has not completed
+///   may be left out; it then did not take place.
 ///
-/// If a rule is broken, the result has the first place at which something does not fit. No other order is tried.
+/// If a rule is broken, the result has the first place at which an operation does not fit. No other order is tried.
 ///
-/// Costs O(n log n) in the events and in the order; a read of a set also costs O(members). A dequeue from a queue without an order removes
-/// its value from any place, and a dequeue without an answer removes a value that no later dequeue needs.
+/// Costs O(n log n) in the events and in the order; a read of a set also costs O(members). A dequeue from an unordered queue removes its
+/// value from any place. A dequeue without an answer removes a value that no later dequeue needs.
 pub fn confirm(
     alloc: Global,
     history: &History,

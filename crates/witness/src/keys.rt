@@ -14,7 +14,7 @@ use events::Event;
 use kinds::ModelKind;
 use std::alloc::{AllocError, Global};
 
-// Whether operation `id` has returned before the event with index `invocation`.
+// Returns whether operation `id` has returned before the event with index `invocation`.
 fn is_before(statuses: &[OperationStatus], id: usize, invocation: usize) -> bool
     ensures { IsTrue result ↔ IsBefore statuses.now id invocation }
 {
@@ -24,8 +24,8 @@ fn is_before(statuses: &[OperationStatus], id: usize, invocation: usize) -> bool
     }
 }
 
-// The first place of an operation that has returned before the invocation of an earlier operation of the order, if there is one. Such an
-// operation has returned before the latest of these invocations.
+// Returns the first place in `positions` whose operation has returned before the invocation of an earlier operation, if there is one. It
+// compares each return with the latest invocation so far.
 fn first_late(statuses: &[OperationStatus], positions: &[Position]) -> Option<usize>
     ensures { MatchOption result (AreInTime statuses.now (ids_of positions.now)) (λ at. (at < length positions.now)
         × AreInTime statuses.now (ids_of (take at positions.now))
@@ -42,7 +42,7 @@ fn first_late(statuses: &[OperationStatus], positions: &[Position]) -> Option<us
     None
 }
 
-// The mismatch of the operation at place `at`, for this reason.
+// Returns the mismatch of the operation at index `at` of `positions`, for the reason `why`.
 fn mismatch_at(positions: &[Position], at: usize, why: MismatchReason) -> Mismatch
     requires { at < length positions.now }
     ensures { (d : Position) → let position = slice_index_or positions.now at d in
@@ -56,7 +56,8 @@ fn mismatch_at(positions: &[Position], at: usize, why: MismatchReason) -> Mismat
     }
 }
 
-// The first operation of one key that cannot take place behind the ones before it, if there is one. All of them are in time.
+// Returns the mismatch of the first operation of one key that cannot take place after those before it, if there is one. All these
+// operations are in time.
 fn rejected(
     alloc: Global,
     events: &[Event],
@@ -76,7 +77,7 @@ fn rejected(
     }
 }
 
-// The first operation of one key that does not fit, if there is one.
+// Returns the mismatch of the first operation of one key that does not fit, if there is one.
 fn key_mismatch(
     alloc: Global,
     events: &[Event],
@@ -96,7 +97,7 @@ fn key_mismatch(
     }
 }
 
-// The mismatch with the lesser place, or `None` if both are `None`.
+// Returns the mismatch with the lesser place, or `None` if both are `None`.
 fn earlier(a: Option<Mismatch>, b: Option<Mismatch>) -> Option<Mismatch>
     ensures one { (result ≡ a) ⊎ (result ≡ b) }
     ensures none { result ≡ None → (a ≡ None) × (b ≡ None) }
@@ -110,7 +111,7 @@ fn earlier(a: Option<Mismatch>, b: Option<Mismatch>) -> Option<Mismatch>
     }
 }
 
-// Sorts the operations by key, and keeps the order of those of one key.
+// Sorts the operations by key. Operations of the same key keep their order.
 fn sort_by_keys(positions: &mut Vec<Position>) -> Result<(), AllocError>
     ensures { OnOk result (AreByKeys positions.old.items positions.new.items) }
 {
@@ -118,7 +119,7 @@ fn sort_by_keys(positions: &mut Vec<Position>) -> Result<(), AllocError>
     Ok(())
 }
 
-// The place behind the last operation with the key of the one at `start`. Operations of one key are side by side.
+// Returns the index after the last operation with the same key as the one at `start`. Operations of one key are contiguous.
 fn end_of_key(positions: &[Position], start: usize) -> usize
     requires { start < length positions.now }
     ensures later { start < result }
@@ -137,8 +138,8 @@ fn end_of_key(positions: &[Position], start: usize) -> usize
     positions.len()
 }
 
-/// The mismatch with the least place: `found`, or the first one of some key. Costs a sort by keys, and O(log n) in the state for each
-/// operation.
+/// Returns the mismatch with the least place: `found`, or the first mismatch of a key. Costs a sort by keys, and O(log n) in the state for
+/// each operation.
 pub fn first_mismatch(
     alloc: Global,
     events: &[Event],

@@ -1,7 +1,7 @@
-//! Whether an order of the operations of a history shows that the history is linearizable.
+//! A test whether an order of operations shows that a history is linearizable.
 //!
-//! [`confirm`] notes the status of each operation, places the operations of the order, sorts them by key, and runs those of each key one
-//! after another. The result names the first operation that does not fit, with its place in the order.
+//! [`confirm`] computes the status of each operation, and finds the positions of the operations in the order. It sorts them by key, and
+//! runs the operations of each key one after another. The result names the first operation that does not fit, with its place in the order.
 //!
 //! A call allocates only if its result can be `AllocError`, or a refusal because memory ran out.
 #![tactic(auto)]

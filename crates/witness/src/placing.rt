@@ -13,22 +13,22 @@ use std::alloc::{AllocError, Global};
 /// The position of an operation in an order.
 #[derive(Clone, Copy)]
 pub struct Position {
-    /// Its key.
+    /// The key of the operation.
     pub key: Key,
-    /// Its place in the order.
+    /// The place of the operation in the order.
     pub place: usize,
-    /// The index of its invocation.
+    /// The index of the operation's invocation.
     pub id: usize,
 }
 
-/// The first operations of an order, and the mismatch behind them, if there is one.
+/// The first operations of an order, and the mismatch after them, if there is one.
 #[derive(Drop)]
 pub struct Placed {
     pub positions: Vec<Position>,
     pub stop: Option<Mismatch>,
 }
 
-// The key of the event with index `id`, or 0 if there is none.
+// Returns the key of the event with index `id`, or 0 if there is none.
 fn key_at(events: &[Event], id: usize) -> Key
     ensures { result ≡ key_at (slice_get events.now id) }
 {
@@ -38,7 +38,7 @@ fn key_at(events: &[Event], id: usize) -> Key
     }
 }
 
-// The reason for which operation `id` may not be next in the order, if there is one. `taken` marks the operations before it.
+// Returns the reason why operation `id` may not be the next one in the order, if there is one. `taken` marks the operations before it.
 fn reason_of(statuses: &[OperationStatus], taken: &[bool], id: usize) -> Option<MismatchReason>
     requires { length taken.now ≡ length statuses.now }
     ensures { MatchOption result
@@ -61,14 +61,15 @@ fn reason_of(statuses: &[OperationStatus], taken: &[bool], id: usize) -> Option<
     }
 }
 
-// Whether an operation with this status must be in each order.
+// Returns whether an operation with this status must be in each order.
 fn must_be_in_order(status: OperationStatus) -> bool
     ensures { IsTrue result ↔ MustBeInOrder status }
 {
     matches!(status, OperationStatus::Returned(_))
 }
 
-// The first operation that must be in the order and is not marked, if there is one. The order ends at place `end`.
+// Returns the mismatch of the first operation that must be in the order and is not marked in `taken`, if there is one. `end` is the length
+// of the order.
 fn left_out(statuses: &[OperationStatus], taken: &[bool], end: usize) -> Option<Mismatch>
     requires { length taken.now ≡ length statuses.now }
     ensures { MatchOption result
@@ -90,8 +91,8 @@ fn left_out(statuses: &[OperationStatus], taken: &[bool], end: usize) -> Option<
     None
 }
 
-/// The positions of the operations before the first mismatch, and that mismatch. If each operation may be where it is, the mismatch is the
-/// first operation that is left out. Costs O(order + events).
+/// Returns the positions of the operations before the first mismatch, and this mismatch. If each operation may be at its place, the
+/// mismatch is that of the first operation that is left out. Costs O(order + events).
 pub fn place_all(
     alloc: Global,
     events: &[Event],

@@ -1,5 +1,5 @@
-//! Whether calls of a queue without an order can take place one after another. The code goes through the calls from the last to the first,
-//! so that the values that later calls require are known, and a dequeue without an answer takes any other value.
+//! A test whether calls of an unordered queue can take place one after another. It goes from the last call to the first. So it knows the
+//! values that later calls require, and a dequeue without an answer takes any other value.
 ghost use Rattle.std.specs.Prelude.{◌≡◌, ◌↔◌, ◌+◌, ◌<◌, ◌^◌, List, [], ◌∷◌, ◌++◌, length, take, IsTrue, IfOk, MatchOption};
 ghost use Rattle.models.specs.Objects.{unordered_queue};
 ghost use Rattle.witness.specs.declared.calls.Call.{Call};
@@ -12,8 +12,8 @@ use crate::requirement::{Requirement, no_requirement, requirement_before};
 use models::Op;
 use std::alloc::{AllocError, Global};
 
-// The values that the calls and later calls require, from the values that later calls require. `None` if the calls can take place in no
-// queue.
+// Returns the values that `calls` and later calls require. `after` has the values that the later calls require. `None` if the calls can
+// take place in no queue.
 fn requirement_before_all(
     calls: &[Call],
     after: Requirement,
@@ -32,7 +32,7 @@ fn requirement_before_all(
     Ok(Some(requirement))
 }
 
-// Whether the calls can take place in the empty queue and leave what is required after them.
+// Returns whether the calls can take place from the empty queue on, and leave the values that `after` requires.
 fn can_run_before(calls: &[Call], after: Requirement) -> Result<bool, AllocError>
     requires { after.more + length calls.now < 2 ^ 64 }
     ensures { IfOk result (λ b. (later : List Call) → IsRequirement later after
@@ -44,14 +44,14 @@ fn can_run_before(calls: &[Call], after: Requirement) -> Result<bool, AllocError
     }
 }
 
-// Whether the calls can take place in the empty queue.
+// Returns whether the calls can take place from the empty queue on.
 fn can_run(alloc: Global, calls: &[Call]) -> Result<bool, AllocError>
     ensures { IfOk result (λ b. IsTrue b ↔ CanRun unordered_queue calls.now []) }
 {
     can_run_before(calls, no_requirement(alloc))
 }
 
-// Whether a call of the operation can take place behind these calls, with any answer.
+// Returns whether a call of the operation can take place after the calls in `before`, with any answer.
 fn can_come_next(alloc: Global, before: &[Call], op: &Op) -> Result<bool, AllocError>
     requires { length before.now + 1 < 2 ^ 64 }
     ensures { IfOk result (λ b. (c : Call) → c.op ≡ op.now
@@ -63,7 +63,7 @@ fn can_come_next(alloc: Global, before: &[Call], op: &Op) -> Result<bool, AllocE
     }
 }
 
-// The place of the first call that cannot take place behind the ones before it, by bisection.
+// Returns the index of the first call that cannot take place after the calls before it, by bisection.
 fn first_mismatch(alloc: Global, calls: &[Call]) -> Result<usize, AllocError>
     requires { ¬ CanRun unordered_queue calls.now [] }
     ensures within { IfOk result (λ at. at < length calls.now) }
@@ -83,7 +83,7 @@ fn first_mismatch(alloc: Global, calls: &[Call]) -> Result<usize, AllocError>
     Ok(high - 1)
 }
 
-// The reason for which the call at place `at` cannot take place behind the ones before it.
+// Returns the reason why the call at index `at` cannot take place after the calls before it.
 fn why_mismatch(alloc: Global, calls: &[Call], at: usize) -> Result<MismatchReason, AllocError>
     requires within { at < length calls.now }
     requires can_run { CanRun unordered_queue (take at calls.now) [] }
@@ -98,7 +98,7 @@ fn why_mismatch(alloc: Global, calls: &[Call], at: usize) -> Result<MismatchReas
     }
 }
 
-/// The first call of a queue without an order that cannot take place behind the ones before it, if there is one. Costs O(n log² n) in the
+/// Returns the first call of an unordered queue that cannot take place after the calls before it, if there is one. Costs O(n log² n) in the
 /// calls, and O(n log³ n) if there is such a call.
 pub fn queue_rejection(alloc: Global, calls: &[Call]) -> Result<Option<Rejection>, AllocError>
     ensures { IfOk result (λ first. MatchOption first (CanRun unordered_queue calls.now [])

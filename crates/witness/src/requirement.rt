@@ -1,4 +1,4 @@
-//! The values that calls require of the queue without an order in which they begin.
+//! The values that calls require in the unordered queue in which they begin.
 ghost use Rattle.std.specs.Prelude.{◌≡◌, ◌+◌, ◌<◌, ◌≤◌, pos, Some, [], get_or, length, IfOk, IfSome, MatchOption};
 ghost use Rattle.std.specs.List.{Contains};
 ghost use Rattle.models.specs.declared.operation.Name.{Name};
@@ -10,14 +10,14 @@ use models::{Answer, Name, Op, Part};
 use std::alloc::{AllocError, Global};
 use values::Multiset;
 
-/// A queue has at least these values, and `more` further ones.
+/// A requirement on a queue: it has at least these values, and `more` further values.
 #[derive(Drop)]
 pub struct Requirement {
     pub values: Multiset,
     pub more: usize,
 }
 
-/// The requirement of no calls: every queue meets it.
+/// Returns the requirement of no calls, which every queue meets.
 pub fn no_requirement(alloc: Global) -> Requirement
     ensures requirement { IsRequirement [] result }
     ensures more { result.more ≡ 0 }
@@ -28,7 +28,7 @@ pub fn no_requirement(alloc: Global) -> Requirement
     }
 }
 
-// The place of a value, or `None` if the value is not in. Costs O(log² n).
+// Returns the index of a value, or `None` if `values` does not contain it. Costs O(log² n).
 fn place_of(values: &Multiset, value: i64) -> Option<usize>
     ensures { MatchOption result (¬ Contains values.now value)
         (λ at. (at < length values.now) × (get_or values.now at (pos 0) ≡ value)) }
@@ -50,7 +50,7 @@ fn place_of(values: &Multiset, value: i64) -> Option<usize>
     }
 }
 
-// The requirement before an enqueue of the value, from the one after it.
+// Returns the requirement before an enqueue of `value`. `requirement` is the one after it.
 fn before_enqueue(requirement: Requirement, value: i64) -> Result<Requirement, AllocError>
     ensures requirement { IfOk result (λ before. (c : Call) → c.op.name ≡ Name.Enqueue
         → c.op.part ≡ Part.Int value → AreBefore c requirement (Some before)) }
@@ -68,7 +68,7 @@ fn before_enqueue(requirement: Requirement, value: i64) -> Result<Requirement, A
     }
 }
 
-// The requirement before a dequeue with this answer, from the one after it. `None` if no queue gives this answer.
+// Returns the requirement before a dequeue with this answer. `requirement` is the one after it. `None` if no queue gives this answer.
 fn before_answered(
     requirement: Requirement,
     answer: &Answer,
@@ -86,7 +86,7 @@ fn before_answered(
     }
 }
 
-// The requirement before a dequeue of its answer, or of any value if it has no answer, from the one after it.
+// Returns the requirement before a dequeue of its answer, or of any value if it has no answer. `requirement` is the one after it.
 fn before_dequeue(
     requirement: Requirement,
     answer: &Option<Answer>,
@@ -105,8 +105,8 @@ fn before_dequeue(
     }
 }
 
-/// The requirement before a call of this operation with this answer, if it has one, from the requirement after it. `None` if the call can
-/// take place in no queue. Costs O(log² n) time and O(log n) memory in the required values.
+/// Returns the requirement before a call of this operation with this answer, if it has one. `requirement` is the one after it. `None` if
+/// the call can take place in no queue. Costs O(log² n) time and O(log n) memory in the required values.
 pub fn requirement_before(
     requirement: Requirement,
     op: &Op,

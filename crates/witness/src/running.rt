@@ -1,4 +1,4 @@
-//! Whether calls can take place one after another.
+//! A test whether calls can take place one after another.
 ghost use Rattle.std.specs.Prelude.{IfOk, MatchOption};
 ghost use Rattle.kinds.specs.Kinds.{object_of};
 ghost use Rattle.witness.specs.Calls.{CanRun, IsRejection};
@@ -11,8 +11,8 @@ use crate::taking::take_call;
 use kinds::{AnyState, ModelKind};
 use std::alloc::{AllocError, Global};
 
-// The first call that cannot take place behind the ones before it, if there is one. The kind is not a queue without an order, so each call
-// has at most one outcome.
+// Returns the first call that cannot take place after the calls before it, if there is one. The kind is not an unordered queue, so each
+// call has at most one outcome.
 fn rejection_in_turn(
     alloc: Global,
     kind: ModelKind,
@@ -32,8 +32,8 @@ fn rejection_in_turn(
     Ok(None)
 }
 
-/// The first call that cannot take place behind the ones before it. `None` if all calls can take place one after another, from the start
-/// state of an object of this kind on, and each finds a value that fits its answer.
+/// Returns the first call that cannot take place after the calls before it. `None` if all calls can take place one after another, from the
+/// start state of an object of this kind on. Each call then finds a value that fits its answer.
 ///
 /// Costs O(log n) in the state for each call, and O(members) for a read of a set.
 pub fn first_rejection(

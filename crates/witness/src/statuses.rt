@@ -15,13 +15,13 @@ pub enum OperationStatus {
     NoOperation,
     /// The operation has not completed, or has crashed. It may have taken place.
     Pending,
-    /// The operation has returned, by the event with this index.
+    /// The operation has returned, at the event with this index.
     Returned(usize),
     /// The operation has failed. It did not take place.
     Failed,
 }
 
-// The process of an event that has an operation.
+// Returns the process of an event, if the event is about an operation.
 fn client_of(event: &Event) -> Option<u32>
     ensures { result ≡ option_map (λ (e : OpEvent). e.process) (op_event event.now) }
 {
@@ -31,14 +31,14 @@ fn client_of(event: &Event) -> Option<u32>
     }
 }
 
-// The index of the last invocation of a process, or 0 if there is none.
+// Returns the index of the last invocation of a process, or 0 if there is none.
 fn last_of(last: &BTreeMap<u32, usize>, process: u32) -> usize
     ensures { result ≡ last_in last.now process }
 {
     last.get(&process).copied().unwrap_or(0)
 }
 
-// The status of an operation after its event of this kind, with index `at`.
+// Returns the status of an operation after its event of this kind with index `at`.
 fn made_by(kind: EventKind, at: usize) -> OperationStatus
     ensures { (last : ℕ) (op : Op) → result ≡ status_by at (mark_by_act at last (act_by kind op)) }
 {
@@ -50,7 +50,7 @@ fn made_by(kind: EventKind, at: usize) -> OperationStatus
     }
 }
 
-// Notes the last invocation of a process, if its event with index `at` is one.
+// Stores `at` as the last invocation of the process, if its event at this index is an invocation.
 fn note_last(
     last: &mut BTreeMap<u32, usize>,
     kind: EventKind,
@@ -69,7 +69,7 @@ fn note_last(
     }
 }
 
-// Notes the event with index `at`.
+// Updates the statuses and the last invocations by the event at index `at`.
 fn note(
     statuses: &mut Vec<OperationStatus>,
     last: &mut BTreeMap<u32, usize>,
@@ -93,7 +93,7 @@ fn note(
     Ok(())
 }
 
-/// The status of the operation that each event invokes. Costs O(n log p) in the events and the processes.
+/// Returns, for each event, the status of the operation that it invokes. Costs O(n log p) in the n events and the p processes.
 pub fn statuses_of(alloc: Global, events: &[Event]) -> Result<Vec<OperationStatus>, AllocError>
     ensures { IfOk result (λ statuses. AreStatuses events.now statuses.items) }
 {

@@ -13,7 +13,7 @@ use kinds::AnyState;
 use models::{Answer, Found, fits};
 use std::alloc::{AllocError, Global};
 
-/// Whether the value that was found fits the answer, if there is one.
+/// Returns whether the found value fits the answer. If there is no answer, every value fits.
 pub(crate) fn fits_if(found: &Found, answer: &Option<Answer>) -> bool
     ensures { IsTrue result ↔ FitsIf found.now answer.now }
 {
@@ -23,7 +23,7 @@ pub(crate) fn fits_if(found: &Found, answer: &Option<Answer>) -> bool
     }
 }
 
-// The result of an outcome.
+// Returns the state of the outcome if its found value fits the answer. Otherwise returns the reason why the call does not fit.
 fn settled(
     outcome: Option<(AnyState, Found)>,
     answer: &Option<Answer>,
@@ -44,8 +44,8 @@ fn settled(
     }
 }
 
-/// The state that the call leads to, or the reason for which there is none. The kind is not a queue without an order. Costs O(members) for
-/// a read of a set, and else O(log n) in the state.
+/// Returns the state after the call, or the reason why the call does not fit. The kind is not an unordered queue. Costs O(members) for a
+/// read of a set, and otherwise O(log n) in the state.
 pub(crate) fn take_call(
     alloc: Global,
     state: &AnyState,

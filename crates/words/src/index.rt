@@ -1,4 +1,4 @@
-//! Words that an index finds.
+//! Lists of words with an index.
 ghost use Rattle.std.specs.Prelude.{◌≡◌, ◌<◌, ◌∷◌, ◌++◌, [], length, IsTrue, IsFalse, OnOk, OnErr};
 ghost use Rattle.std.specs.List.{Contains};
 ghost use Rattle.buckets.specs.Index.{Indexes, word_bucket};
@@ -7,7 +7,7 @@ ghost use Rattle.words.specs.Puts.{IsPut};
 use buckets::{Bucketed, Index, find, put_behind};
 use std::alloc::AllocError;
 
-// Whether the word is there, which is in this bucket.
+// Returns whether the list contains `word`, whose bucket is `bucket`.
 fn has_word(words: &[u128], index: &Index, bucket: usize, word: u128) -> bool
     requires index { Indexes word_bucket words.now index.now.last.items index.now.before.items }
     requires all { length index.now.before.items ≡ length words.now }
@@ -19,7 +19,7 @@ fn has_word(words: &[u128], index: &Index, bucket: usize, word: u128) -> bool
     find(words, index, bucket, |at| words[at] == word).is_some()
 }
 
-// Puts the word behind the others, which are all indexed, if there is room: it is in this bucket, and is not there yet.
+// Appends a word that the list does not contain, and indexes it in its bucket, if the index has room for it. All other words are indexed.
 #[inline(never)]
 fn put_with_room(
     words: &mut Vec<u128>,
@@ -42,8 +42,8 @@ fn put_with_room(
     Ok(())
 }
 
-/// Puts the word with the others, which are all indexed, if it is not there. `AllocError` if memory was refused: then the words are as
-/// they were. Costs O(words of one bucket).
+/// Adds `word` if the list does not contain it. All words are indexed. `AllocError` if an allocation fails; the words are then as they
+/// were. Costs O(words of one bucket).
 #[inline(never)]
 pub fn put_indexed(words: &mut Vec<u128>, index: &mut Index, word: u128) -> Result<(), AllocError>
     requires index { Indexes word_bucket words.old.items index.old.last.items index.old.before.items }

@@ -1,8 +1,8 @@
-//! Rows of numbers as words, and sets of words.
+//! Rows of numbers, packed into words, and sets of words.
 //!
-//! A word of 128 bits has the numbers of a row, each with the same number of bits, the first in the lowest bits. The words of a set are in
-//! a list. They are appended, removed from its end, and found by an index of `buckets` if there are more than a few. A copy of a set has no
-//! index, and makes one at the next put.
+//! A word of 128 bits has the numbers of a row. Each number has the same number of bits, and the first number has the lowest ones. A set
+//! has its words in a list. Words are appended to the list and removed from its end. If there are more than a few, an index of `buckets`
+//! finds them. A copy of a set has no index, and makes one at the next insertion.
 //!
 //! A call allocates only if its result can be `AllocError`.
 #![tactic(auto)]

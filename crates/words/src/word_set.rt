@@ -1,4 +1,4 @@
-//! Words, none twice.
+//! Sets of words.
 ghost use Rattle.std.specs.Prelude.{◌≡◌, [], take, length, slice_get, IfOk, OnOk, OnErr};
 ghost use Rattle.words.specs.Puts.{IsPut};
 ghost use Rattle.words.specs.Words.{AreApart};
@@ -8,14 +8,14 @@ use buckets::{Index, index_all};
 use std::alloc::{AllocError, Global};
 use std::marker::Model;
 
-// So few words are looked through one by one, without an index.
+// Up to this number of words are searched one by one, without an index.
 const FEW: usize = 12;
 
-// So many are looked through one by one too: an index has places of 32 bits, and room for no more.
+// From this number on the words are searched one by one too: the places of an index have 32 bits.
 const MANY: usize = 2147483584;
 
-/// Words, none twice, in the order in which they were put. If there are more than a few, an index finds them. It is made when a word is
-/// put.
+/// Different words, in the order in which they were added. If there are more than a few, an index finds them. A call of [`put`](Self::put)
+/// makes the index.
 #[derive(Drop)]
 pub struct WordSet {
     words: Vec<u128>,
@@ -36,7 +36,7 @@ impl Model for WordSet {
 }
 
 impl WordSet {
-    /// No words.
+    /// Returns a set without words.
     pub fn new(alloc: Global) -> WordSet
         ensures { result ≡ [] }
     {
@@ -46,7 +46,7 @@ impl WordSet {
         }
     }
 
-    /// How many words there are.
+    /// Returns the number of words.
     pub fn len(&self) -> usize
         ensures len { result ≡ length self.now }
         ensures apart { AreApart self.now }
@@ -54,19 +54,19 @@ impl WordSet {
         self.words.len()
     }
 
-    /// The number of words for which there is room.
+    /// Returns the number of words that fit in the allocated memory.
     pub fn capacity(&self) -> usize {
         self.words.capacity()
     }
 
-    /// The word at place `at`, or `None` beyond the last word. Takes constant time.
+    /// Returns the word at place `at`, or `None` beyond the last word. Takes constant time.
     pub fn get(&self, at: usize) -> Option<u128>
         ensures { result ≡ slice_get self.now at }
     {
         self.words.get(at).copied()
     }
 
-    /// Takes all words out.
+    /// Removes all words.
     pub fn clear(&mut self)
         ensures { self.new ≡ [] }
     {
@@ -74,7 +74,7 @@ impl WordSet {
         self.index.clear();
     }
 
-    /// Keeps the first `len` words. If it removes indexed words, the next put indexes all again.
+    /// Keeps only the first `len` words. If it removes indexed words, the next call of [`put`](Self::put) indexes all words again.
     pub fn truncate(&mut self, len: usize)
         ensures { self.new ≡ take len self.old }
     {
@@ -84,8 +84,8 @@ impl WordSet {
         self.words.truncate(len);
     }
 
-    /// Adds the word if it is not there. `AllocError` if there is no memory: then the words are as they were. Looks the word up by the
-    /// index if there are more than a few words; if some words are not indexed, indexes all of them first.
+    /// Adds `word` if the set does not contain it. `AllocError` if an allocation fails; the words are then as they were. If there are more
+    /// than a few words, an index finds the word. If some words are not indexed, all of them are indexed first.
     #[inline(always)]
     pub fn put(&mut self, word: u128) -> Result<(), AllocError>
         ensures put { OnOk result (IsPut word self.old self.new) }
@@ -98,7 +98,7 @@ impl WordSet {
         self.put_anew(word)
     }
 
-    // The same, if not all are indexed, or there are too many or too few for it.
+    // Adds `word` if the set does not contain it. Not all words are indexed, or there are too many or too few for an index.
     #[inline(never)]
     fn put_anew(&mut self, word: u128) -> Result<(), AllocError>
         ensures put { OnOk result (IsPut word self.old self.new) }
@@ -112,7 +112,7 @@ impl WordSet {
         put_indexed(&mut self.words, &mut self.index, word)
     }
 
-    // The same, if all are looked through.
+    // Adds `word` if the set does not contain it. Compares it with each word.
     #[inline(always)]
     fn put_looked_through(&mut self, word: u128) -> Result<(), AllocError>
         ensures put { OnOk result (IsPut word self.old self.new) }
@@ -124,7 +124,7 @@ impl WordSet {
         Ok(())
     }
 
-    /// The same words, with memory of their own. They are indexed when one is put. Costs O(words).
+    /// Returns the same words, with memory of their own. The next call of [`put`](Self::put) indexes them. Costs O(words).
     pub fn copied(&self, alloc: Global) -> Result<WordSet, AllocError>
         ensures { IfOk result (λ words. words ≡ self.now) }
     {

@@ -1,11 +1,11 @@
-//! Rows of numbers as words.
+//! Rows of numbers, packed into words.
 ghost use Rattle.std.specs.Prelude.{◌≡◌, ℕ, ◌+◌, ◌-◌, ◌*◌, ◌/◌, ◌%◌, ◌^◌, ◌<◌, ◌≤◌, ◌↔◌, IsTrue, length, get_or, set, IfSome, OnOk};
 ghost use Rattle.std.specs.List.{remove};
 ghost use Rattle.words.specs.Words.{IsWordOf, digits, value};
 
 use std::alloc::AllocError;
 
-// The number of numbers with at most `bits` bits.
+// Returns 2^`bits`.
 fn base_of(bits: u32) -> u128
     requires { bits ≤ 32 }
     ensures is { result ≡ 2 ^ bits }
@@ -15,7 +15,7 @@ fn base_of(bits: u32) -> u128
     1 << bits
 }
 
-/// The largest number of `bits` bits. Takes constant time.
+/// Returns the greatest number of `bits` bits. Takes constant time.
 pub fn largest_of(bits: u32) -> u64
     requires { bits ≤ 32 }
     ensures { result ≡ 2 ^ bits - 1 }
@@ -23,14 +23,14 @@ pub fn largest_of(bits: u32) -> u64
     (1 << bits) - 1
 }
 
-// The lower half of the word's bits.
+// Returns the lower half of the word's bits.
 fn low_half(word: u128) -> u64
     ensures { result ≡ word % 2 ^ 64 }
 {
     (word % 18446744073709551616) as u64
 }
 
-/// The first number of the word. Takes constant time.
+/// Returns the first number of the word. Takes constant time.
 pub fn first_of(word: u128, bits: u32) -> usize
     requires { bits ≤ 32 }
     ensures { result ≡ word % 2 ^ bits }
@@ -38,7 +38,7 @@ pub fn first_of(word: u128, bits: u32) -> usize
     (low_half(word) & largest_of(bits)) as usize
 }
 
-// The number at this place.
+// Returns the word with `number` at `place` and zeros elsewhere.
 #[tactic(auto, using(crate::proofs::Digits::pow_of, crate::proofs::Digits::shifted_fits))]
 fn placed(number: usize, bits: u32, place: usize) -> u128
     requires number { number < 2 ^ bits }
@@ -49,7 +49,7 @@ fn placed(number: usize, bits: u32, place: usize) -> u128
     (number as u128) << (bits * place as u32)
 }
 
-/// The number at this place of the word. Takes constant time.
+/// Returns the number at `place` of the word. Takes constant time.
 #[tactic(auto, using(crate::proofs::Digits::pow_of))]
 pub fn number_at(word: u128, bits: u32, place: usize) -> usize
     requires bits { bits ≤ 32 }
@@ -60,7 +60,7 @@ pub fn number_at(word: u128, bits: u32, place: usize) -> usize
     first_of(word >> (bits * place as u32), bits)
 }
 
-/// The first number of the word, which is of 64 bits, by the largest number. Takes constant time.
+/// Returns the first number of a word of 64 bits. `largest` is the greatest number with the word's bits for a number. Takes constant time.
 #[inline(always)]
 #[tactic(auto, using(std::proofs::lemmas::Nat::and_mask))]
 pub fn first_in_half(word: u64, largest: u64) -> usize
@@ -69,7 +69,8 @@ pub fn first_in_half(word: u64, largest: u64) -> usize
     (word & largest) as usize
 }
 
-/// Whether the number at this place of a word of 64 bits is zero. `largest` is the largest number of that many bits. Takes constant time.
+/// Returns whether the number at `place` of a word of 64 bits is zero. `largest` is the greatest number of `bits` bits. Takes constant
+/// time.
 #[inline(always)]
 #[tactic(auto, using(crate::proofs::Digits::pow_of))]
 pub fn has_zero_in_half(word: u64, bits: u32, largest: u64, place: usize) -> bool
@@ -82,7 +83,7 @@ pub fn has_zero_in_half(word: u64, bits: u32, largest: u64, place: usize) -> boo
     first_in_half(word >> (bits * place as u32), largest) == 0
 }
 
-/// Whether the number at this place of the word is zero. Takes constant time.
+/// Returns whether the number at `place` of the word is zero. Takes constant time.
 #[inline(always)]
 pub fn has_zero_in_whole(word: u128, bits: u32, place: usize) -> bool
     requires bits { bits ≤ 32 }
@@ -92,7 +93,7 @@ pub fn has_zero_in_whole(word: u128, bits: u32, place: usize) -> bool
     bits == 0 || number_at(word, bits, place) == 0
 }
 
-// Writes the numbers of the word, which is of 64 bits, into the row.
+// Writes the numbers of a word of 64 bits into `row`.
 #[inline(always)]
 fn unpack_half(word: u64, bits: u32, row: &mut [usize])
     requires { bits ≤ 32 }
@@ -106,7 +107,7 @@ fn unpack_half(word: u64, bits: u32, row: &mut [usize])
     }
 }
 
-// Writes the numbers of the word into the row.
+// Writes the numbers of the word into `row`.
 #[inline(never)]
 fn unpack_whole(word: u128, bits: u32, row: &mut [usize])
     requires { bits ≤ 32 }
@@ -119,7 +120,7 @@ fn unpack_whole(word: u128, bits: u32, row: &mut [usize])
     }
 }
 
-// Gives the row `long` numbers of any values.
+// Gives `row` the length `long`, with any numbers.
 #[inline(never)]
 fn lengthen(row: &mut Vec<usize>, long: usize) -> Result<(), AllocError>
     ensures { OnOk result (length row.new.items ≡ long) }
@@ -127,7 +128,7 @@ fn lengthen(row: &mut Vec<usize>, long: usize) -> Result<(), AllocError>
     row.resize(long, 0)
 }
 
-/// Writes the `long` numbers of the word into `row`, each of `bits` bits, the first from the lowest. Costs O(numbers).
+/// Writes the `long` numbers of the word into `row`. Each number has `bits` bits, and the first has the lowest ones. Costs O(numbers).
 #[inline(always)]
 pub fn unpack(word: u128, bits: u32, long: usize, row: &mut Vec<usize>) -> Result<(), AllocError>
     requires { bits ≤ 32 }
@@ -143,7 +144,7 @@ pub fn unpack(word: u128, bits: u32, long: usize, row: &mut Vec<usize>) -> Resul
     Ok(())
 }
 
-// The word, which is of 64 bits, without the `bits` bits from bit `shift` on; those above them move down.
+// Removes `bits` bits from a word of 64 bits, from bit `shift` on. The higher bits move down.
 #[inline(always)]
 fn without_in_half(word: u64, bits: u32, shift: u32) -> u64
     requires bits { bits ≤ 32 }
@@ -155,7 +156,7 @@ fn without_in_half(word: u64, bits: u32, shift: u32) -> u64
     word - (rest << shift) + (rest >> bits << shift)
 }
 
-// The word without the `bits` bits from bit `shift` on; those above them move down.
+// Removes `bits` bits from a word, from bit `shift` on. The higher bits move down.
 #[inline(always)]
 fn without_in_whole(word: u128, bits: u32, shift: u32) -> u128
     requires bits { bits ≤ 32 }
@@ -167,7 +168,7 @@ fn without_in_whole(word: u128, bits: u32, shift: u32) -> u128
     word - (rest << shift) + (rest >> bits << shift)
 }
 
-/// The word without the number at this place. Takes constant time.
+/// Returns the word without the number at `place`. Takes constant time.
 #[inline(always)]
 pub fn without(word: u128, bits: u32, long: usize, place: usize) -> u128
     requires bits { bits ≤ 32 }
@@ -184,7 +185,7 @@ pub fn without(word: u128, bits: u32, long: usize, place: usize) -> u128
     }
 }
 
-/// The word of the row, if none of its numbers has more bits. Costs O(its numbers).
+/// Returns the word of the row, or `None` if one of its numbers has more than `bits` bits. Costs O(numbers).
 pub fn packed(row: &[usize], bits: u32) -> Option<u128>
     requires bits { bits ≤ 32 }
     requires room { bits * length row.now ≤ 128 }
@@ -202,7 +203,7 @@ pub fn packed(row: &[usize], bits: u32) -> Option<u128>
     Some(word)
 }
 
-/// The word with `to` as its first number, and `slot` instead of the zero at this place. Takes constant time.
+/// Returns the word with `to` as its first number, and with `slot` instead of the zero at `place`. Takes constant time.
 pub fn changed(word: u128, bits: u32, long: usize, to: usize, place: usize, slot: usize) -> u128
     requires bits { bits ≤ 32 }
     requires some { 0 < bits }

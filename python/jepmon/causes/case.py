@@ -8,7 +8,7 @@ from ..history.fault_notes import Fault
 from ..objects import State
 from ..objects.configurations import UNBOUNDED, GaveUp, Stop, Walk, Walker
 from ..program import Options, check
-from ..shrinking.part import as_asked, text_of
+from ..shrinking.part import as_asked, asked_text
 from .beside import before
 from .effort import Effort
 from .names import Names
@@ -114,7 +114,7 @@ class Case(NamedTuple):
 
     def forced_by(self) -> Optional[Event]:
         """The first event after which the fatal operation has taken place in each end. None if the walk cannot find this event."""
-        walker = Walker(self.model, UNBOUNDED, self.effort.work)
+        walker = Walker(self.model, UNBOUNDED, self.effort.work, self.options.own)
         try:
             for event in self.front[:-1]:
                 walker.take(event)
@@ -139,7 +139,7 @@ class Case(NamedTuple):
         return [completion for completion in completions if self._is_legal(completion)]
 
     def _is_legal(self, completion: Event) -> bool:
-        text = text_of(self.front[:-1] + [completion], self.options.concurrency)
+        text = asked_text(self.front[:-1] + [completion], self.options)
         if not self.effort.may_ask(text, len(self.front)):
             self.effort.leave_out("what jepmon says of another answer")
             return False

@@ -25,12 +25,15 @@ from .effort import Effort
 from .failures import of_another_model, of_failure
 from .locks import of_mutex
 from .names import Names, capital, client, ordinal_times
+from .own import of_own
 from .queues import of_queue
 from .registers import of_register
 from .sets import of_set
 from .unknown import Over, of_unknown
 
 NOT_PROVED = "The verdict and jepmon's answers are proved. The other sentences are not."
+BY_RULES = ("The verdict and jepmon's answers are proved. The other sentences are not: they have the states and answers of the rules as a tool in Python "
+            "reads them.")
 BY_MODEL: Dict[str, Callable[[Case], Found]] = {
     "register": of_register,
     "cas-register": of_register,
@@ -75,7 +78,8 @@ def explain(events: Sequence[Event], report: Report, options: Options, names: Na
     line = next((line for line in report.keys if line.key == report.key), None)
     if line is None or line.index is None or report.word not in ("illegal", "unknown"):
         return None
-    own, named = options.of_line(line, program), Names(names.values, names.keys)
+    own = options.of_line(line, program)
+    named = Names(names.values, names.keys, own.answering)
     whole = of_key(events, line.key)
     front = [event for event in whole if event.index <= (line.index or 0)]
     effort = effort or Effort()
@@ -95,7 +99,8 @@ def explain(events: Sequence[Event], report: Report, options: Options, names: Na
         found = found._replace(sentences=[*found.sentences, of_event(faults, front[-1])])
     told = {mention.event.index: mention for mention in sorted(found.mentions, key=lambda mention: bool(mention.note))}
     sentences = [sentence for sentence in [*found.sentences, effort.said] if sentence]
-    return Cause(report.verdict, line.key, found.headline, sentences, [told[index] for index in sorted(told)], part, named)
+    return Cause(report.verdict, line.key, found.headline, sentences, [told[index] for index in sorted(told)], part, named,
+                 NOT_PROVED if own.own is None else BY_RULES)
 
 
 def of_illegal(options: Options, front: List[Event], later: List[Event], names: Names, program: Optional[str],
@@ -108,9 +113,11 @@ def of_illegal(options: Options, front: List[Event], later: List[Event], names: 
     if walked.status != "dead" or walked.fatal != front[-1]:
         return None
     case = Case(options.model, front[-1].key, front, made, fatal, later, walked, options, names, program, effort, faults)
-    if fatal.invocation.name not in MODELS[options.model]:
+    if fatal.invocation.name not in (MODELS[options.model] if options.own is None else options.own.rules.operations):
         return of_another_model(case)
-    return of_failure(case) if fatal.outcome == "fail" else BY_MODEL[options.model](case)
+    if fatal.outcome == "fail":
+        return of_failure(case)
+    return BY_MODEL[options.model](case) if options.own is None else of_own(case, options.own)
 
 
 def of_part_alone(found: Optional[Found]) -> Optional[Found]:

@@ -31,7 +31,8 @@ def of_failure(case: Case) -> Found:
 def of_another_model(case: Case) -> Found:
     """Explains an operation that the object does not have."""
     names = {event.name for event in case.front}
-    meant = [model for model, operations in MODELS.items() if names <= operations]
+    objects = case.options.objects
+    meant = [*([] if objects is None else objects.having(frozenset(names))), *(model for model, operations in MODELS.items() if names <= operations)]
     name = case.fatal.invocation.name
     hint = f"Was --model {listed(meant)} meant?" if meant else f"No model has {listed(sorted(names), 'and')} together."
     key = case.names.keys.get(case.key, str(case.key))

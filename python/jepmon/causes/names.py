@@ -1,10 +1,10 @@
 """How a cause names things: values and keys as the user wrote them, clients, operations, events."""
 from __future__ import annotations
 
-from typing import Any, Iterable, Mapping, NamedTuple, Sequence
+from typing import Any, FrozenSet, Iterable, Mapping, NamedTuple, Sequence
 
-from ..history import Operation
-from ..history.kinds import ABSENT
+from ..history import Event, Operation
+from ..history.kinds import ABSENT, OPERATIONS
 
 MOST = 6  # things that are listed
 MEMBERS = 12  # of a set
@@ -24,10 +24,11 @@ class Names(NamedTuple):
 
     values: Mapping[int, str] = {}
     keys: Mapping[int, str] = {}
+    answering: FrozenSet[str] = frozenset()  # names of a file of objects whose oks have answers
 
     def object(self, model: str, key: int) -> str:
         """The object as "key 7", "lock 4", .."""
-        return f"{NOUNS[model]} {self.keys.get(key, key)}"
+        return f"{NOUNS.get(model, model)} {self.keys.get(key, key)}"
 
     def value(self, value: Any) -> str:
         """A value, an answer or a register's state."""
@@ -55,7 +56,16 @@ class Names(NamedTuple):
         if name in ("read", "dequeue"):
             answer = operation.completion.value if operation.completion is not None and operation.outcome == "ok" else None
             return name if answer is None else f"{name} of {self.value(answer)}"
-        return name if value is None else f"{name} of {self.value(value)}"
+        if name in OPERATIONS:
+            return name if value is None else f"{name} of {self.value(value)}"
+        given = self.given(operation.invocation)
+        if operation.completion is None or operation.outcome != "ok" or name not in self.answering:
+            return given
+        return f"{given} \u2192 {self.value(operation.completion.value)}"
+
+    def given(self, invocation: Event) -> str:
+        """Returns the operation without its answer, such as `put [1 6]`."""
+        return invocation.name if invocation.value is None else f"{invocation.name} {self.value(invocation.value)}"
 
     def owned(self, operation: Operation) -> str:
         """The operation with its client, as "client 2's write of 3"."""

@@ -8,7 +8,7 @@ from ..history import Event, Operation, operations
 from ..history.kinds import BUDGETS, DIFFERING
 from ..objects.configurations import GaveUp, TooMany, Walker, walk
 from ..program import Options, by_ends_note, check
-from ..shrinking.part import as_asked, text_of
+from ..shrinking.part import as_asked, asked_text, original_index
 from .case import Found, Mention
 from .effort import Effort
 from .equal_values import note_of_equal_values, of_equal_values
@@ -111,7 +111,7 @@ def may_still_take_place(operation: Operation, index: int) -> bool:
 def growth_of(over: Over, pending: List[Operation]) -> Optional[Growth]:
     """Returns the growth of the number of outcomes. None if there are too many to try, or if the walk finds another event than the
     program."""
-    walker = Walker(over.model, COUNTED, over.effort.work)
+    walker = Walker(over.model, COUNTED, over.effort.work, over.options.own)
     steps: List[Tuple[int, int]] = []
     most = 1
     try:
@@ -157,7 +157,7 @@ def shown_with(over: Over, operation: Operation, factors: Dict[int, float]) -> s
 
 def advice(over: Over, pending: List[Operation]) -> str:
     """Advice for the next test."""
-    noun, timed_out = NOUNS[over.model], sum(operation.outcome == "info" for operation in pending)
+    noun, timed_out = NOUNS.get(over.model, "object"), sum(operation.outcome == "info" for operation in pending)
     hints: List[str] = []
     if over.kind in BY_KIND:
         hints += ["let fewer clients write to one key at once"] if len(pending) - timed_out > 4 or timed_out < 2 else []
@@ -184,8 +184,8 @@ def with_greatest_budget(over: Over) -> str:
     """The program's reply for the key with the greatest budget, if a walk ends with this budget."""
     if over.options.budget >= GREATEST:
         return ""
-    walked = walk(over.whole, over.model, GREATEST, over.effort.work)
-    text = text_of(over.whole, over.options.concurrency)
+    walked = walk(over.whole, over.model, GREATEST, over.effort.work, over.options.own)
+    text = asked_text(over.whole, over.options)
     over.effort.learn(walked)
     if walked.status == "gave up" or not over.effort.may_ask(text, len(over.whole)):
         over.effort.leave_out(f"what jepmon says of this key with --budget {GREATEST}")
@@ -194,5 +194,5 @@ def with_greatest_budget(over: Over) -> str:
     asked = f"jepmon says that with --budget {GREATEST} this key"
     if report.word == "legal" or report.index is None:
         return f"{asked} is legal to its end." if report.word == "legal" else ""
-    index = over.whole[report.index].index
+    index = original_index(text, report.index)
     return f"{asked} is illegal, at event {index}." if report.word == "illegal" else f"{asked} is judged up to event {index}, and no further."

@@ -4,6 +4,7 @@ from __future__ import annotations
 from typing import Dict, List, NamedTuple, Optional, Sequence
 
 from ..edn import Element, Many, Reader, Value, fields_of, integer, keyword
+from ..history.kinds import NO_NAMES, OwnNames
 from ..history.names import Names
 
 LONGEST = 200  # characters of an event that are shown
@@ -15,6 +16,7 @@ class Options(NamedTuple):
     concurrency: int
     model: str
     kind: str = ""  # the kind by which the program has judged the key, if it is a wide kind
+    names: OwnNames = NO_NAMES  # the names of operations that a file of objects declares
 
 
 class Event:

@@ -28,7 +28,7 @@ def of_refusal(number: int, events: Sequence[Event], index: int, options: Option
         yield "a completion has the name, the key and the operand of its invocation, except for the answer of a read or a dequeue:"
         yield from (shower.event(began) for began in open_at(events, index) if began.process == event.process)
     elif number == 5:
-        yield fault_of(event.element.value)
+        yield fault_of(event.element.value, options.names)
     elif number == 6:
         stated = spelling(event.fields[":index"]) if ":index" in event.fields else "None"
         yield f"it states :index {stated}, and {index} events came before it: leave the indices out"

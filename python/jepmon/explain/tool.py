@@ -14,7 +14,7 @@ import pathlib
 import subprocess
 from typing import Dict, Optional
 
-from .. import program
+from .. import program, rules
 from ..edn import integer
 from ..history.kinds import THREADS, model_of
 from ..program import equal_values
@@ -24,7 +24,7 @@ from .refusal import many_clients
 from .said import said
 
 NAME = "explain"
-OPTIONS = ("--concurrency", "--model", "--budget", "--workers")
+OPTIONS = ("--concurrency", "--model", "--budget", "--workers", "--objects")
 
 
 class WrongWords(Exception):
@@ -60,6 +60,11 @@ def work() -> int:
         return command.REFUSED
     stated = {option: getattr(given, option[2:]) for option in OPTIONS if getattr(given, option[2:]) is not None}
     asked = program.Options(model=stated.get("--model", "register"), by_ends=given.by_ends)
+    try:
+        asked = asked if given.objects is None else asked._replace(objects=rules.read(given.objects))
+    except rules.Refused as fault:
+        say(str(fault))
+        return command.REFUSED
 
     try:
         raw = command.standard_input().read() if given.file == "-" else pathlib.Path(given.file).read_bytes()
@@ -97,7 +102,7 @@ def tell(report: program.Report, raw: bytes, stated: Dict[str, str], asked: prog
         by_ends = program.keys_by_ends(report.keys, asked)
         if by_ends:
             say(equal_values.note(by_ends))
-        for line in said(report.verdict, raw, Options(int(stated.get("--concurrency", 2)), model_of(asked.model), kind)):
+        for line in said(report.verdict, raw, Options(int(stated.get("--concurrency", 2)), model_of(asked.model), kind, asked.own_names)):
             say(line)
             is_told = True
     except Exception as fault:

@@ -5,7 +5,7 @@ import collections
 from typing import Callable, Counter, Dict, Iterator, List, Optional, Sequence, Tuple
 
 from ..edn import Many, Value, integer
-from ..history.kinds import BROUGHT, DIFFERING, MODELS, REGISTERS
+from ..history.kinds import BROUGHT, COUNTER, DIFFERING, MODELS, REGISTERS
 from .event import Event, Options, Shower, is_set, open_at
 
 SHOWN = 14  # events of a key
@@ -139,7 +139,7 @@ def of_model(of_key: Sequence[Event], whole: Sequence[Event], options: Options) 
         meant = [model for model, operations in MODELS.items() if names <= operations]
         yield f"key {key} is judged as a {options.model}, where no {' and no '.join(sorted(strange))} can take place"
         if "add" in names and any(event.is_answer and integer(event.part) is not None for event in whole):
-            yield "reads answered by integers beside :add are a counter, which jepmon does not judge"
+            yield f"reads answered by integers beside :add are {COUNTER}"
         else:
             yield f"was --model {' or '.join(meant)} meant?" if meant else f"no object has {', '.join(sorted(names))} together"
     elif of_key[-1].is_answer:
@@ -152,7 +152,7 @@ def of_answer(read: Event, options: Options) -> Iterator[str]:
     if options.model == "set" and answer != "a set":
         yield f"key {read.key} is judged as a set, and this read answers {answer}"
         if answer == "an integer":
-            yield "reads answered by integers beside :add are a counter, which jepmon does not judge"
+            yield f"reads answered by integers beside :add are {COUNTER}"
     elif options.model in REGISTERS and answer == "a set":
         yield f"key {read.key} is judged as a {options.model}, and this read answers a set: was --model set meant?"
 

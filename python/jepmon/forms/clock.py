@@ -68,8 +68,8 @@ class Clock:
         if not isinstance(field, (int, float)) or isinstance(field, bool) or not math.isfinite(field) or field < 0:
             raise Refused(f"line {line}: {_shown(field)} is not a duration: a number from 0 on, whose field names its unit, such as duration_ms")
         if unit is None:
-            raise Refused(f"line {line}: the unit of the duration {_shown(field)} is not known: name its field as duration_ms is, or say "
-                          "--map FIELD=duration_ms")
+            raise Refused(f"line {line}: the unit of the duration {_shown(field)} is not known: rename its field so that the name has "
+                          "the unit, such as duration_ms, or say --map FIELD=duration_ms")
         if not self._is_known:
             raise Refused(f"line {line}: the unit of the times is not known, and that of this duration is {unit}: say --time-unit")
         return field * UNITS[unit]

@@ -22,6 +22,7 @@ from ..from_jepsen.source import Texts
 from ..from_jepsen.turn import Turned, collected, written
 from ..from_jepsen.write import OF_SHARDS, Limits
 from ..history import kinds
+from ..rules import Objects
 from . import Refused, detect, edn_rows, log_rows, logs, others, own_front, rows, rows_told, tables
 from .account import KEY, Account, Shifted
 from .clients import Clients
@@ -49,6 +50,12 @@ class Options(NamedTuple):
     values: Optional[str] = None  # which spellings are one value: "exact", "text" or "number"
     absent: Sequence[str] = ()  # the texts of answers that mean that a key is missing
     initial: Optional[str] = None  # the first value of each register
+    objects: Optional[Objects] = None  # the objects of a file
+
+    @property
+    def own_names(self) -> kinds.OwnNames:
+        """The names of operations that the file of objects declares."""
+        return kinds.NO_NAMES if self.objects is None else self.objects.names
 
     @property
     def missing_is_judged(self) -> bool:
@@ -71,7 +78,8 @@ class Options(NamedTuple):
     def asked(self, order: Optional[str]) -> Asked:
         """Returns the same options for events in Jepsen's form, which are read in this order."""
         skew = None if self.mapping.skew is None or order == LINES else nanoseconds(self.mapping.skew)
-        return Asked(self.key, self.missing_is_judged, order, self.mapping.contradictions, skew, meant=self.meant, ignored=self.mapping.ignored)
+        return Asked(self.key, self.missing_is_judged, order, self.mapping.contradictions, skew, meant=self.meant, ignored=self.mapping.ignored,
+                     objects=self.objects)
 
 
 def form_of(source: Source, options: Options) -> str:
@@ -86,7 +94,7 @@ def form_of(source: Source, options: Options) -> str:
     if form != detect.EDN:
         return LOG if form == detect.LOG else form
     is_plain = options.key is None and not options.says_of_values and options.mapping.order in (None, LINES) and options.mapping.skew is None
-    if is_plain and own_front.is_own(source.front):
+    if is_plain and own_front.is_own(source.front, options.own_names):
         is_asked = options.mapping.order == LINES
         return OWN if is_asked or own_front.is_in_order(source.front, source.texts()) else JEPSEN
     return KEYED if edn_rows.is_one(source.front) else JEPSEN
@@ -239,7 +247,7 @@ def _collected(texts: Texts, options: Options, account: Account, source: Source)
 
 
 def _refuse_others(text: str, options: Options) -> None:
-    reason = others.named(text, options.model == "set")
+    reason = others.named(text, options.model == "set", options.own_names)
     if reason is not None:
         raise Refused(reason)
 

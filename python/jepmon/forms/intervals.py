@@ -10,7 +10,7 @@ from __future__ import annotations
 from bisect import bisect_right
 from typing import Any, Dict, Iterable, List, NamedTuple, Optional, Set, Tuple
 
-from . import Refused
+from . import Refused, own_rows
 from .answers import UNANSWERED, answered, says_no
 from .clock import Time
 from .meaning import ANSWERED, MISSING, Told
@@ -33,6 +33,7 @@ class Interval(NamedTuple):
     error: Optional[str]
     mark: int  # a number that distinguishes rows; 0 for a read
     last: int = 0  # the line of its completion, if it is another line
+    answers: bool = False  # whether it is an operation of an object of a file, and has an answer
 
 
 class Fault(NamedTuple):
@@ -54,14 +55,16 @@ def of_told(told: Told, writer: Writer) -> Interval:
     if told.ends is not None and told.ends < told.call:
         raise Refused(f"line {line}: it returns at {told.ends}, before its call at {told.call}; leave the return out if there is none")
     argument, answer, outcome = told.value, told.answer, told.outcome
-    if told.name in ANSWERED:
+    if told.own is not None:
+        argument, answer = own_rows.both(told, told.own, outcome == "ok" or outcome is None and told.ends is not None)
+    elif told.name in ANSWERED:
         if answer is MISSING:
             argument, answer = None, argument
         elif argument in (MISSING, None, ""):  # Go prints an empty text if there is no argument
             argument = None
         else:
-            raise Refused(f"line {line}: a {told.name} has the argument {element(argument)[:60]} and an answer too, but can only have an answer; "
-                          "say --map FIELD=NAME for the field that is not one, such as FIELD=key or FIELD=outcome")
+            raise Refused(f"line {line}: a {told.name} has the argument {element(argument)[:60]} and the answer {element(answer)[:60]}, but can only "
+                          "have an answer; say --map FIELD=NAME for the field that is not one, such as FIELD=key or FIELD=outcome")
     elif answer is not MISSING and told.name in UNANSWERED and (outcome is None or outcome == "ok" and says_no(told.name, answer)):
         outcome = answered(line, told.name, answer) or outcome
     if outcome is None:
@@ -74,7 +77,8 @@ def of_told(told: Told, writer: Writer) -> Interval:
     if ends is None:
         writer.counts["operations that never returned, which may take place at any later time"] += outcome == "info"
     mark = 0 if told.name == "read" else hash(repr(told.fields))
-    return Interval(line, _hashable(told.client), word(line, told.name), told.key, argument, answer, told.call, ends, outcome, told.error, mark)
+    return Interval(line, _hashable(told.client), word(line, told.name), told.key, argument, answer, told.call, ends, outcome, told.error, mark,
+                    answers=told.own is not None and told.own.answers)
 
 
 def _hashable(client: Any) -> Any:
@@ -92,12 +96,12 @@ class Operations:
         self._ends: Dict[Any, List[Time]] = {}  # the returns of the operations that have certainly returned
 
     def take(self, interval: Interval, keeps_times: bool) -> None:
-        line, client, name, key, argument, answer, call, ends, outcome, error, mark, last = interval
+        line, client, name, key, argument, answer, call, ends, outcome, error, mark, last, answers = interval
         self._count += 1
         self._returned += ends is not None
         self._clients.add(client)
         key = () if key is MISSING else key
-        value = answer if outcome == "ok" and name in ANSWERED else argument
+        value = answer if outcome == "ok" and (answers or name in ANSWERED) else argument
         begun = line, name, key, () if argument is MISSING else argument, call, None, mark
         self._timeline.operation(client, call, ends, outcome, begun, (last or line, name, key, () if value is MISSING else value, ends, error, mark))
         if keeps_times:

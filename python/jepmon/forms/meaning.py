@@ -5,11 +5,13 @@ import re
 from typing import Any, Dict, List, NamedTuple, Optional, Tuple
 
 from ..history.kinds import ANSWERED
+from ..rules import Objects
 from . import Refused
 from .account import Account
 from .clock import Clock, Time, nanoseconds
 from .mapping import Mapping
 from .outcomes import Outcomes, Said, error_of, truth
+from .own_rows import OwnRow, own_rows, words_of
 from .rows import Row
 from .shapes import Fields, Shape, Shapes, Use, allowed, short, shown
 from .vocabulary import OF_STACKS, both_of, plain
@@ -37,19 +39,21 @@ class Told(NamedTuple):
     error: Optional[str]
     id: Any
     fields: Fields  # as the row has them
+    own: Optional[OwnRow] = None  # of an operation of a file of objects
 
 
 class Reader:
     """Reads rows. The first row decides whether they are events or operations."""
 
-    def __init__(self, mapping: Mapping, account: Account, has_model: bool) -> None:
+    def __init__(self, mapping: Mapping, account: Account, has_model: bool, objects: Optional[Objects] = None) -> None:
         self.shapes = Shapes(mapping)
         self.clock = Clock(account, mapping.time_unit)
         self.clock.needs_unit = mapping.skew is not None and nanoseconds(mapping.skew) > 0
         self.of_operations: Optional[bool] = None
         self._mapping, self._account = mapping, account
         self._outcomes = Outcomes(mapping.outcomes, account)
-        self._operations = {**mapping.operations, **OF_STACKS} if has_model else mapping.operations
+        self._own = own_rows(objects)
+        self._operations = {**mapping.operations, **(OF_STACKS if has_model else {}), **words_of(self._own)}
         self._words: Dict[Any, str] = {}  # the operations by their words
         self._key_parts: Optional[List[str]] = None  # the fields that are the key, if the user names them
         self.last_index = -1  # the last index that an event states
@@ -82,12 +86,13 @@ class Reader:
         outcome = self._outcomes.of(line, name, shape, fields, of_type)
         time, at, end_at = self._times(line, shape, fields, kind, call, ends)
         error = error_of(shape, fields) if "error" in uses else None
-        if name == "delete":
+        if name == "delete" and name not in self._own:
             name, value = "write", None
         return Told(line, kind, self._one(line, "client", uses, fields)[1], name,
                     self._key(line, shape.key_parts, fields) if shape.key_parts else self._one(line, "key", uses, fields)[1], value, answer, outcome,
                     at, end_at, time, None if error is None else error[1] if isinstance(error[1], str) else element(error[1]),
-                    self._one(line, "id", uses, fields)[1] if "id" in uses else MISSING, fields)
+                    self._one(line, "id", uses, fields)[1] if "id" in uses else MISSING, fields,
+                    self._own.get(name or ""))
 
     def close(self) -> List[str]:
         """Records the unused fields. Raises Refused if one of them may matter."""
@@ -124,11 +129,12 @@ class Reader:
 
     def _value(self, line: int, name: Optional[str], uses: Dict[str, List[Use]], fields: Fields) -> Any:
         value = self._one(line, "value", uses, fields)[1]
-        if name == "cas" and "old" in uses:
+        takes_two = name == "cas" or name in self._own and self._own[name].many == 2
+        if takes_two and "old" in uses:
             old, new = self._one(line, "old", uses, fields)[1], self._one(line, "new", uses, fields)[1]
             return value if old is None and new is MISSING else [old, value if new is MISSING else new]
         for meaning in ("old", "new"):
-            for use in uses.get(meaning, ()) if name not in ("cas", None) else ():
+            for use in uses.get(meaning, ()) if name is not None and not takes_two else ():
                 if fields[use.name] is not None:
                     self.shapes.unused(line, use.name, fields[use.name])
         return value

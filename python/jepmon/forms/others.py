@@ -1,7 +1,7 @@
 """Histories that jepmon does not judge, by the names of their operations: their kind, and a tool that checks it."""
 from __future__ import annotations
 
-from typing import Dict, Iterable, Optional, Tuple
+from typing import Container, Dict, Iterable, Optional, Tuple
 
 from .. import edn
 from ..from_jepsen.events import tuple_of
@@ -28,15 +28,15 @@ GROW_ONLY = ("this is a grow-only set, which is read at the end and need not be 
 RESULTS = "these are the results of a test, not a history"
 
 
-def named(text: str, as_set: bool) -> Optional[str]:
-    """The reason why jepmon cannot judge a text of EDN, if the first events show it."""
+def named(text: str, as_set: bool, own: Container[str] = ()) -> Optional[str]:
+    """The reason why jepmon cannot judge a text of EDN, if the first events show it. `own` has names of operations of a file of objects."""
     try:
-        return _named(edn.Reader(text).history(), as_set)
+        return _named(edn.Reader(text).history(), as_set, own)
     except edn.Unreadable:  # it is reported later, when the whole text is read
         return None
 
 
-def _named(elements: Iterable[edn.Element], as_set: bool) -> Optional[str]:
+def _named(elements: Iterable[edn.Element], as_set: bool, own: Container[str]) -> Optional[str]:
     for _, element in zip(range(LOOKED_AT), elements):
         fields = edn.fields_of(element.value)
         if fields is None:
@@ -46,7 +46,7 @@ def _named(elements: Iterable[edn.Element], as_set: bool) -> Optional[str]:
         name = edn.keyword(fields.get(":f")) or ""
         if edn.integer(fields.get(":process")) is None:
             continue
-        if name in OTHERS:
+        if name in OTHERS and name not in own:
             return reason(element.line, name)
         if name == "read" and fields.get(":type") == ":invoke" and _is_several(fields.get(":value")):
             return f"line {element.line}: {SEVERAL_REGISTERS}"

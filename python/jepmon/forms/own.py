@@ -8,7 +8,7 @@ from __future__ import annotations
 import array
 import collections
 import re
-from typing import Counter, Dict, List, NamedTuple, Optional, Set, Tuple
+from typing import Container, Counter, Dict, List, NamedTuple, Optional, Set, Tuple
 
 from ..history import kinds
 from .account import Account
@@ -19,10 +19,10 @@ FLAT = rf"(?:{ATOM}|#\{{\}}|\[(?:{ATOM}(?:,? {ATOM})*)?\])"
 DEEP = rf"(?:{FLAT}|\[(?:{FLAT}(?:,? {FLAT})*)?\])"
 PART = rf"nil|{INTEGER}|\[{INTEGER} {INTEGER}\]|#\{{(?:{INTEGER}(?: {INTEGER})*)?\}}"
 EVENT = re.compile(
-    r"\{:type :(invoke|ok|fail|info),? :process ([0-9]{1,10}|:nemesis),? :f :([a-z-]+),? "
+    r"\{:type :(invoke|ok|fail|info),? :process ([0-9]{1,10}|:nemesis),? :f :([A-Za-z][A-Za-z0-9_?!*.-]*),? "
     rf":value (?:\[([0-9]{{1,5}}) ({PART})\]|{DEEP})((?:,? :[a-z-]+ {DEEP})*)\}}\r?")
 NOTE = re.compile(r'#_\{(?:[^{}"\\]|"(?:[^"\\\n]|\\.)*")*\}[ \t\r]*')
-COMMAND = re.compile(r"\[:(?:(model) ([0-9]{1,5}) :([a-z-]+)|(budget) ([0-9]{1,5}) ([0-9]{1,6})|(rewind) ([0-9]{1,7})|verdict)\]\r?")
+COMMAND = re.compile(r"\[:(?:(model) ([0-9]{1,5}) :([A-Za-z][A-Za-z0-9_?!*.-]*)|(budget) ([0-9]{1,5}) ([0-9]{1,6})|(rewind) ([0-9]{1,7})|verdict)\]\r?")
 COMMAND_LINE = re.compile(rf"^{COMMAND.pattern}$", re.M)
 INDEX = re.compile(r",? :index ([0-9]{1,10})(?![0-9])")
 GAP, OF_COMMANDS, TAKEN_BACK = "blank or comment", "commands", "events that were taken back"  # lines without an event
@@ -87,9 +87,10 @@ class Own(NamedTuple):
     account: Account
 
 
-def read(text: str) -> Optional[Own]:
-    """Reads the history, if the text is in this form, with an event on each line."""
-    scan = _Scan()
+def read(text: str, own: kinds.OwnNames = kinds.NO_NAMES, models: Container[str] = ()) -> Optional[Own]:
+    """Reads the history, if the text is in this form, with an event on each line. `own` has the names of operations that a file of objects
+    declares, and `models` has the names of its objects."""
+    scan = _Scan(own, models)
     lines = text.split("\n")
     if not lines[-1]:
         lines.pop()
@@ -102,7 +103,8 @@ def read(text: str) -> Optional[Own]:
 class _Scan:
     """A reading of the lines, one after another."""
 
-    def __init__(self) -> None:
+    def __init__(self, own: kinds.OwnNames, models: Container[str]) -> None:
+        self._own, self._known = own, models
         self._events: List[str] = []
         self._numbers: List[int] = []
         self._models: Dict[int, str] = {}
@@ -133,10 +135,10 @@ class _Scan:
         elif found.group(7):
             self._account.skip(TAKEN_BACK, max(0, len(self._events) - int(found.group(8))))
             del self._events[int(found.group(8)):], self._numbers[int(found.group(8)):]
-        return found.group(3) in (None, *kinds.NAMES)
+        return found.group(3) in (None, *kinds.NAMES) or found.group(3) in self._known
 
     def own(self, text: str, lines: int) -> Optional[Own]:
-        facts = facts_of(self._events, self._numbers)
+        facts = facts_of(self._events, self._numbers, self._own)
         if facts is None:
             return None
         if self._has_commands:
@@ -146,8 +148,9 @@ class _Scan:
         return Own(text, facts, self._models, self._budgets, self._has_commands, self._account)
 
 
-def facts_of(events: List[str], numbers: List[int]) -> Optional[Facts]:
-    """Reads the events in these lines, if the program accepts each event after the earlier ones."""
+def facts_of(events: List[str], numbers: List[int], own: kinds.OwnNames = kinds.NO_NAMES) -> Optional[Facts]:
+    """Reads the events in these lines, if the program accepts each event after the earlier ones. `own` has the names of operations that a
+    file of objects declares."""
     facts, opened = Facts(), {}  # type: Facts, Opened
     keys, infos, count = facts.keys, facts.infos, facts.outcomes
     had_value: Dict[str, bool] = {}  # for the operation of each process: whether its key had a value when the operation began
@@ -172,7 +175,10 @@ def facts_of(events: List[str], numbers: List[int]) -> Optional[Facts]:
                 return None
             facts.processes.append(-1)
             continue
-        if key is None or not _may_come(opened, kind, process, name, key, part):
+        if key is None:
+            return None
+        if not (_may_come(opened, kind, process, name, key, part) if name in TOLD else
+                name in own and _may_come_own(opened, kind, process, name, key, part, own[name])):
             return None
         facts.processes.append(int(process))
         of_key = keys.get(int(key))
@@ -222,6 +228,20 @@ def _may_come(opened: Opened, kind: str, process: str, name: str, key: str, part
         opened[process] = (name, key, part)
         return int(key) in kinds.KEYS
     return opened.pop(process, None) == (name, key, part)
+
+
+def _may_come_own(opened: Opened, kind: str, process: str, name: str, key: str, part: str, asks: bool) -> bool:
+    """Does the same for a name that a file of objects declares. If it asks for its client, only an answer has two integers."""
+    begins = part[0] if part[0] in (NIL, PAIR, SET) else NUMBER
+    if begins == SET or asks and begins == PAIR and kind != "ok" or not _is_value(begins, part):
+        return False
+    if kind == "invoke":
+        if process in opened:
+            return False
+        opened[process] = (name, key, part)
+        return int(key) in kinds.KEYS
+    invoked = opened.pop(process, None)
+    return invoked == (name, key, part) if kind != "ok" else invoked is not None and invoked[:2] == (name, key)
 
 
 def _is_value(begins: str, part: str) -> bool:

@@ -6,6 +6,8 @@ import operator
 import re
 from typing import Iterable
 
+from ..history import HistoryError, kinds, read_history
+
 EVENT = re.compile(r"\{(?::index [0-9]+,? )?:type :[a-z]+,? :process [0-9:]")
 
 
@@ -29,8 +31,11 @@ def is_in_order(front: str, texts: Iterable[str]) -> bool:
     return True
 
 
-def is_own(front: str) -> bool:
-    """Whether the first event of a text is in jepmon's own form. Also true if there is no event."""
+def is_own(front: str, own: kinds.OwnNames = kinds.NO_NAMES) -> bool:
+    """Whether the first event of a text is in jepmon's own form. Also true if there is no event. `own` has the names of operations that a
+    file of objects declares."""
+    if own:
+        return is_own_by(front, own)
     from ..shards.doubt import Doubt  # imported here, since loading takes time
     from ..shards.lines import HEAD, rows_of
 
@@ -41,3 +46,14 @@ def is_own(front: str) -> bool:
             except Doubt:
                 return False
     return not front.lstrip().startswith(("[", "(", "#jepsen"))
+
+
+def is_own_by(front: str, own: kinds.OwnNames) -> bool:
+    """Does the same for a history whose operations may have these names too."""
+    first = next((line for line in front.split("\n") if line.startswith("{")), None)
+    if first is None:
+        return not front.lstrip().startswith(("[", "(", "#jepsen"))
+    try:
+        return EVENT.match(first) is not None and len(read_history(first, own=own)) == 1
+    except HistoryError:
+        return False

@@ -7,7 +7,7 @@ from __future__ import annotations
 
 from typing import Any, Dict, Iterable, Iterator, List, Optional
 
-from . import Refused, intervals
+from . import Refused, intervals, own_rows
 from .account import Account
 from .answers import completed
 from .clock import Time
@@ -85,14 +85,17 @@ class Pairs:
         """The operation of an invocation and its completion."""
         name = begun.name or (end.name if end is not None else None)
         value, answer = begun.value, MISSING
-        if end is not None and name in ANSWERED:
+        own = begun.own if begun.own is not None else end.own if end is not None else None
+        if own is not None:
+            answer = own_rows.answer(end._replace(name=name), own) if end is not None and kind == "ok" else MISSING
+        elif end is not None and name in ANSWERED:
             answer = end.answer if end.answer is not MISSING else end.value
             value = MISSING
             answer = None if answer is MISSING else answer
         elif end is not None and value in (MISSING, None):
             value = end.value
         returns = None if end is None or kind == "info" else end.time
-        told = begun._replace(name=name, value=value, answer=answer, outcome=kind, call=begun.time, ends=returns,
+        told = begun._replace(name=name, value=value, answer=answer, outcome=kind, call=begun.time, ends=returns, own=own,
                               error=end.error if end is not None else None,
                               key=begun.key if begun.key is not MISSING or end is None else end.key)
         return intervals.of_told(told, self._writer)._replace(last=0 if end is None else end.line)

@@ -3,7 +3,7 @@ from __future__ import annotations
 
 from typing import Any, Dict, Iterator, List, Optional, Tuple, Union
 
-from . import Refused
+from . import Refused, own_rows
 from .account import ORDER, Account
 from .answers import completed
 from .clock import Time
@@ -68,7 +68,7 @@ class Events:
 
     def learn(self, row: Row) -> None:
         """Learns a plan for rows like this one, whose event was written."""
-        if self._writer.collector.meant.says_nothing:
+        if self._writer.collector.meant.says_nothing and not self._writer.collector.own:
             self._plans.learn(row)
 
     def take_run(self, rows: Iterator[Row]) -> Optional[Row]:
@@ -196,10 +196,14 @@ def parts(told: Told, kind: str, invoked: Optional[Told]) -> Tuple[str, Any, Any
     if kind != "invoke" and invoked is not None:
         name = name or invoked.name
         key = invoked.key if key is MISSING else key
-        if name in ANSWERED and told.answer is not MISSING:
+        if invoked.own is not None:
+            value = own_rows.answer(told._replace(name=name), invoked.own) if kind == "ok" and invoked.own.answers else invoked.value
+        elif name in ANSWERED and told.answer is not MISSING:
             value = told.answer
         elif name not in ANSWERED and value in (MISSING, None):
             value = invoked.value
+    elif told.own is not None:
+        value = own_rows.argument(told, told.own)
     elif name in ANSWERED and value == "":  # Go prints an empty text if there is no value
         value = MISSING
     if name is None:

@@ -56,7 +56,7 @@ class _Turning:
         collector = Collector(asked.of_events._replace(order=LINES), account)
         collector.history.is_of_rows = True
         self._writer = Writer(collector)
-        self._reader = Reader(asked.mapping, account, asked.has_model)
+        self._reader = Reader(asked.mapping, account, asked.has_model, asked.of_events.objects)
         self._is_etcd = False
         self._clients = Clients(asked.source, asked.mapping.clients)
 

@@ -35,7 +35,7 @@ class Writer:
     def event(self, line: int, kind: str, process: int, name: str, value: Pair, time: Optional[Time] = None, error: Optional[str] = None) -> None:
         if name == "cas" and kind == "invoke" and value[0] is not None and not is_pair(value[1]):
             raise Refused(f"line {line}: the value of this cas is {shown(value[1], 60)}, not a pair of the old and the new value")
-        if name in others.OTHERS:
+        if name in others.OTHERS and f":{name}" not in self.collector.own:
             raise Refused(others.reason(line, name))
         self.collector.take_told(line, f":{kind}", process, f":{name}", value, beside(time, error))
 

@@ -49,5 +49,5 @@ class Apart:
 
     def _refuse(self, line: int, name: str, first: Value, other: Value) -> None:
         what = ("if it tells runs apart, judge each by itself" if plain(name) in RUNS
-                else "if it is a part of the key, let :value be [[PART KEY] VALUE]")
+                else f"if it is a part of the key, let :value be [[{name[1:].upper()} KEY] VALUE]")
         refuse(line, f"{name} is {shown(other, 24)} here and {shown(first, 24)} before: {what}; say --ignore {name[1:]} if it means nothing")

@@ -4,6 +4,7 @@ from __future__ import annotations
 from typing import Callable, FrozenSet, Iterable, Iterator, Mapping, NamedTuple, Optional, Sequence, Tuple
 
 from ..edn import Value
+from ..rules import Objects
 from .meant import Meant
 from .source import Texts
 
@@ -45,4 +46,5 @@ class Asked(NamedTuple):
     parts: Sequence[Tuple[int, Texts]] = ()  # the same files, each with the number of lines before its first line
     meant: Meant = Meant()  # which values are one value, and which mean a missing key
     ignored: FrozenSet[str] = frozenset()  # the fields that the user ignores, by their plain names
+    objects: Optional[Objects] = None  # the objects of a file, whose operations a history may have
     is_own: bool = False  # whether the history is in jepmon's own form, whose lines are in the order of the events

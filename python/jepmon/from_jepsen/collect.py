@@ -16,6 +16,7 @@ from .asked import GAP, Asked, Counted, Pair
 from .clients import NEMESIS, Clients, is_name
 from .events import Event, Fault, History, Left, Row, is_pair, is_plain, tuple_of
 from .order import Order
+from .own import own_part
 from .outcomes import Outcomes
 from .plain import Plain, plain_of
 from .refusal import NoKey, Refusal, Unpaired, refuse
@@ -41,7 +42,8 @@ class Collector:
         self.clients, self.outcomes, self.apart = Clients(), Outcomes(asked.outcomes), Apart(asked.ignored)
         self.open: Dict[int, Row] = {}
         self.history = History(Spool())
-        self.history.meant = asked.meant
+        self.history.meant, self.history.objects = asked.meant, asked.objects
+        self.own = frozenset(f":{name}" for name in asked.objects.names) if asked.objects is not None else frozenset()
         self.known: Dict[Tuple[str, str, Value], Tuple[Value, Value]] = {}  # the key and operand of earlier values, by :type and :f
         self.nil_fault: Optional[Refusal] = None  # the first write of nil
         self.has_false = False  # whether false was enqueued
@@ -53,7 +55,7 @@ class Collector:
         """The history of a text that comes in pieces."""
         pieces = Counted(pieces)
         front = next(pieces, "")
-        plain = plain_of(front, self.lone_key is None) if self.meant.says_nothing else None
+        plain = plain_of(front, self.lone_key is None) if self.meant.says_nothing and not self.own else None
         elements = edn.Reader(itertools.chain((front,), pieces)).history(plain.find if plain is not None else None)
         try:
             for element in elements:
@@ -63,7 +65,7 @@ class Collector:
                     self.take(element, self.count)
                     self.count += 1
         except NoKey:
-            refuse_others(elements)
+            refuse_others(elements, self.own)
             raise
         except edn.Unreadable as fault:
             raise Refusal(str(fault)) from fault
@@ -109,7 +111,7 @@ class Collector:
             try:
                 self.take_odd(row)
             except NoKey:
-                refuse_others(itertools.islice(run.each(), row[6] - run.line + 1, None))
+                refuse_others(itertools.islice(run.each(), row[6] - run.line + 1, None), self.own)
                 raise
         self.keep_rows()
         return count + len(run.rows)
@@ -237,8 +239,8 @@ class Collector:
         kind, name, value = fields.get(":type"), fields.get(":f"), fields.get(":value", "nil")
         if not isinstance(kind, str) or kind not in TYPES:
             refuse(line, f"its :type is {shown(kind or 'nil')}, which is none of {', '.join(sorted(TYPES))}")
-        if not isinstance(name, str) or name not in TAKEN:
-            refuse_operation(line, name)
+        if not isinstance(name, str) or name not in TAKEN and name not in self.own:
+            refuse_operation(line, name, self.own)
         if kind == ":invoke":
             self.invoke(line, process, name, value, index)
             return
@@ -252,12 +254,12 @@ class Collector:
             who = self.clients.shown(process)
             raise Unpaired(f"line {line}: {who} invokes {name}, and its operation of line {began} is not completed")
         key, part = self.key_and_part(line, ":invoke", name, value)
-        if name in WITHOUT_PART and part != "nil":
+        if name in WITHOUT_PART and name not in self.own and part != "nil":
             self.history.notes[f":invoke of {name} with a value, which is left out"] += 1
         self.has_false = self.has_false or part == "false" and name == ":enqueue"
-        event = Event(":invoke", process, name, key, "nil" if name in WITHOUT_PART else part, index, line, self.beside)
+        event = Event(":invoke", process, name, key, "nil" if name in WITHOUT_PART and name not in self.own else part, index, line, self.beside)
         self.open[process] = row_of(event)
-        if name == DRAIN:
+        if name == DRAIN and name not in self.own:
             self.history.drained.add(key)
         else:
             self.history.add(event)
@@ -271,7 +273,9 @@ class Collector:
                 refuse_value_of_read(line, name, plain)
             key, part = self.taken_apart(line, name, plain)
             known = self.meant.alike(key), self.meant.part(name, part)
-            if kind == ":invoke":
+            if name in self.own:
+                known = known[0], own_part(line, name, known[1])
+            elif kind == ":invoke":
                 self.test_part(line, name, known[1])
             if len(self.known) < MOST_KNOWN and (isinstance(known[1], str) or name == ":cas"):
                 self.known[kind, name, value] = known
@@ -285,11 +289,13 @@ class Collector:
         invoked = event_of(opened)
         if invoked.name != name:
             raise Unpaired(f"line {line}: {self.clients.shown(process)} completes {name}, and has invoked {invoked.name} at line {invoked.line}")
-        if name == DRAIN:
+        if name == DRAIN and name not in self.own:
             self.drain(line, kind, invoked, value, index)
             return
         part = invoked.part
-        if kind == ":ok" and name in ANSWERED:
+        if name in self.own:
+            part = self.answer(line, invoked, value) if kind == ":ok" else part
+        elif kind == ":ok" and name in ANSWERED:
             part = self.answer(line, invoked, value)
             kind = self.answered(line, name, part)
             part = part if kind == ":ok" else invoked.part

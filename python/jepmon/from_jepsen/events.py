@@ -6,6 +6,7 @@ from typing import Any, Counter, Dict, Iterator, List, NamedTuple, Optional, Pro
 
 from ..edn import Many, Value, fields_of, integer
 from ..history.process_lives import Lives
+from ..rules import Objects
 from .meant import Meant
 
 PLAIN = range(-10**18 + 1, 10**18)  # integers that are certainly values of jepmon; the least values are left out
@@ -95,6 +96,7 @@ class History:
         self.nil_fault: Optional[Exception] = None  # the first write of nil, which is refused unless a missing key answers nil
         self.is_of_rows = False  # whether it was made of rows, whose events have no index of their own
         self.meant = Meant()  # which values are one value
+        self.objects: Optional[Objects] = None  # the objects of a file, whose operations the history may have
         self.is_plain = True  # whether the operand of each event is nil, or one or more plain integers
         self._begun: Set[int] = set()  # the processes that have begun, and have not crashed
         self._open = 0

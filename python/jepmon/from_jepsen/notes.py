@@ -2,6 +2,7 @@
 from __future__ import annotations
 
 import itertools
+import shlex
 from typing import Iterator, Mapping, Set
 
 from ..edn import Value
@@ -36,11 +37,13 @@ def clients_of(names: Mapping[int, str]) -> Iterator[str]:
 def advice(history: History, models: Models, writer: Writer) -> Iterator[str]:
     """How to have the output judged."""
     options = f"--concurrency {writer.processes.threads}"
-    shared = common(models)
+    options += "" if history.objects is None else f" --objects {shlex.quote(history.objects.path)}"
+    shared = common(models, history.objects)
     if history.drained:
         yield "the values of a :drain have no order: a queue with drains is judged as an unordered-queue, not as a fifo-queue"
     if shared:
         other = f" (or {shared[1]}, where any order will do)" if shared[:1] == ["fifo-queue"] else ""
+        other = f" (or {', '.join(shared[1:])}, which have these operations too)" if shared[0] in (history.objects or ()) and shared[1:] else other
         yield f"judge it by: jepmon check FILE {options} --model {shared[0]}{other}"
         return
     yield f"its keys are of several kinds: judge it by jepmon script {options}, these lines before it:"

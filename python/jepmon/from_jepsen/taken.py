@@ -2,7 +2,7 @@
 from __future__ import annotations
 
 import itertools
-from typing import Iterator, NoReturn, Optional
+from typing import Collection, Iterator, NoReturn, Optional
 
 from .. import edn
 from ..edn import Value, integer, shown
@@ -18,10 +18,10 @@ ANSWERED = frozenset(f":{name}" for name in kinds.ANSWERED)
 WITHOUT_PART = frozenset([f":{name}" for name in kinds.WITHOUT_PART] + [DRAIN])
 
 
-def refuse_operation(line: int, name: Optional[Value]) -> NoReturn:
+def refuse_operation(line: int, name: Optional[Value], own: Collection[str] = ()) -> NoReturn:
     if isinstance(name, str) and name[1:] in kinds.NOT_JUDGED:
         refuse(line, f"{name} {kinds.NOT_JUDGED[name[1:]]}")
-    refuse(line, f"no object of jepmon has {shown(name or 'nil')}; they have {', '.join(OPERATIONS)}")
+    refuse(line, f"no object of jepmon has {shown(name or 'nil')}; they have {', '.join([*OPERATIONS, *sorted(own)])}")
 
 
 def refuse_value_of_read(line: int, name: Value, value: Value) -> None:
@@ -35,16 +35,16 @@ def refuse_value_of_read(line: int, name: Value, value: Value) -> None:
                "jepmon judges reads of one key each")
 
 
-def refuse_others(elements: Iterator[edn.Element]) -> None:
-    """Refuses a history whose operations jepmon does not have, whatever their keys."""
+def refuse_others(elements: Iterator[edn.Element], own: Collection[str] = ()) -> None:
+    """Refuses a history whose operations neither jepmon nor a file of objects has, whatever their keys."""
     try:
         for element in itertools.chain.from_iterable(element.each() for element in elements):
             fields = edn.fields_of(element.value) or {}
             name = fields.get(":f")
             if integer(fields.get(":process")) is None:
                 continue
-            if name not in TAKEN:
-                refuse_operation(element.line, name)
+            if name not in TAKEN and name not in own:
+                refuse_operation(element.line, name, own)
             if fields.get(":type") == ":invoke":
                 refuse_value_of_read(element.line, name or "nil", fields.get(":value", "nil"))
     except edn.Unreadable:  # it is reported later, once there is a key

@@ -12,6 +12,8 @@ one vector of them, also compressed by gzip. From each event of a client it keep
   --key K           for a history without independent keys: every value v becomes [K v]
   --nil-is-absent   a missing key answers nil, so nil is an answer that says something: it becomes a number of its own, and a
                     write of it comes first for each key that is a register, by process 0, before the history's own events
+  --objects FILE    operations of the objects in the file, such as :put-if-absent. true and false in them become 1 and 0, and integers stay as
+                    they are, since rules may compute with them
   --shards          for jepmon-judge --jobs and jepmon-shards: any number of keys, and of operations that are open at once
 
 Standard error says which parts were left out, how the operations ended, and the least --concurrency and the --model by which jepmon can
@@ -24,12 +26,14 @@ Then the output is one line that is not an event, so a check refuses it too, als
 from __future__ import annotations
 
 import argparse
-from typing import Iterable
+from typing import Iterable, Optional
 
+from .. import rules
 from ..edn import integer
 from ..forms import door, files, mapping_words, meant_words
 from ..forms.look_alikes import account_for_types
 from ..history.kinds import KEYS
+from ..rules import Objects
 from ..tools import command
 from .refusal import Refusal
 from .turn import Turned
@@ -51,6 +55,7 @@ def words() -> argparse.Namespace:
     parser.add_argument("--strict-input", action="store_true", help="refuse each guess, for example of the order or of an outcome")
     meant_words.add(parser)
     mapping_words.add_order(parser)
+    parser.add_argument("--objects", metavar="FILE", help="a file with objects of your own, whose operations the history has (docs/guide/OBJECTS.md)")
     parser.add_argument("--shards", action="store_true", help="for shards: any number of keys, and of operations that are open at once")
     try:
         given = parser.parse_args()
@@ -64,18 +69,35 @@ def words() -> argparse.Namespace:
 def turned(given: argparse.Namespace, source: files.Source) -> Turned:
     """Returns the history in jepmon's form. Prints notes on how it was read."""
     options = door.Options(given.key, given.nil_is_absent, None, mapping_words.of_order(given), False, given.values,
-                           tuple(given.absent), given.initial)
+                           tuple(given.absent), given.initial, objects_of(given))
     form = door.form_of(source, options)
     if form not in (door.OWN, door.JEPSEN, door.KEYED):
         raise Refusal(f"it is {form}, and Jepsen's history.edn is EDN; {command.tool('from-json')} turns it")
     made = door.translated(source, door.KEYED if form == door.KEYED else door.JEPSEN, options)
     result = made.turned(given.shards)
+    models = [model for each in result.models.values() for model in each]
+    asking = None if options.objects is None or result.keeps_clients else options.objects.asking(models)
+    if asking is not None:
+        raise Refusal(f"operations of {asking} ask for their client, and the clients of this history get new numbers: record the client as an "
+                      "argument")
     account_for_types(result.names.keys, result.names.values, given.values, made.account)
     for line in [*source.notes, *made.notes, *made.account.told(), *result.notes, *result.advice]:
         command.say(NAME, line)
     if given.strict_input:
         made.account.test_strict()
     return result
+
+
+def objects_of(given: argparse.Namespace) -> Optional[Objects]:
+    """Returns the objects of the file, if one is named. Shards have none."""
+    if given.objects is None:
+        return None
+    if given.shards:
+        raise Refusal("shards have no objects of a file: leave --shards or --objects out")
+    try:
+        return rules.read(given.objects)
+    except rules.Refused as fault:
+        raise Refusal(str(fault)) from fault
 
 
 def work() -> int:

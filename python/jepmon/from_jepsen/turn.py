@@ -33,6 +33,11 @@ class Turned:
         self.names: Names = writer.names()  # the original keys and values of numbered ones
 
     @property
+    def keeps_clients(self) -> bool:
+        """Whether the processes are those of the history."""
+        return not (self.history.is_of_rows or self._writer.processes.renumbered)
+
+    @property
     def begun(self) -> int:
         """The number of events before the history's own. If nil is the answer of a missing key, each register begins with a write."""
         return 2 * len(self._writer.registers)
@@ -87,4 +92,4 @@ def written(history: History, nil_is_absent: bool, limits: Limits, initial: Opti
         models = {key: [model for model in possible if model in REGISTERS] or possible for key, possible in models.items()}
     writer = Writer(history, models, nil_is_absent, limits, initial)
     by_number = {writer.keys.number(key): possible for key, possible in models.items()}
-    return Turned(writer, by_number, common(models), list(notes(history, writer)), list(advice(history, models, writer)))
+    return Turned(writer, by_number, common(models, history.objects), list(notes(history, writer)), list(advice(history, models, writer)))

@@ -12,6 +12,7 @@ from .events import Event, History
 from .meant import EXACT
 from .models import Models
 from .numbering import Numbering
+from .own import is_own
 from .processes import OnThreads, OwnProcesses, processes_of
 from .refusal import TooMany
 from .spool import event_of
@@ -39,7 +40,8 @@ class Writer:
         self.registers = {key for key, possible in models.items() if begins and possible[0] in REGISTERS}
         self.sets = {key for key, possible in models.items() if possible == ["set"]}
         self.keys = Numbering(lambda: history.keys, KEYS if len(history.keys) <= len(KEYS) else limits.keys)
-        self.values = Numbering(self._values, VALUES, None if history.meant.values == EXACT else history.meant.alike)
+        self.owns = {key for key, possible in models.items() if possible[0] in (history.objects or ())}  # objects of a file
+        self.values = Numbering(self._values, VALUES, None if history.meant.values == EXACT else history.meant.alike, bool(self.owns))
         self.absent = str(self.values.another()) if nil_is_absent else "nil"
         self.processes = processes_of(history, limits.threads)
         self.known: Dict[Tuple[str, str, Value, Value], Tuple[str, str]] = {}  # the texts of keys and operands that occur again and again
@@ -118,9 +120,9 @@ class Writer:
         of_set = event.key in self.sets
         if of_set and event.name == ":read" and isinstance(event.part, Many):
             return f"#{{{' '.join(dict.fromkeys(map(self.values, event.part.members)))}}}"
-        absent = "nil" if of_set else self.absent
+        absent = "nil" if of_set or event.key in self.owns else self.absent
         values = [absent if value == "nil" else self.values(value) for value in values_of(event, of_set)]
-        if event.name == ":cas":
+        if event.name == ":cas" or is_own(event.name) and isinstance(event.part, Many):
             return f"[{' '.join(values)}]"
         return values[0] if values else "nil"
 
@@ -134,7 +136,7 @@ def values_of(event: Event, of_set: bool) -> Sequence[Value]:
     """Returns the values in the operand of an event. Nil is a value if it is written, or is the answer of a read."""
     if event.part == "nil" and not has_value(event):
         return ()
-    if isinstance(event.part, Many) and (event.name == ":cas" or of_set and event.name == ":read"):
+    if isinstance(event.part, Many) and (event.name == ":cas" or of_set and event.name == ":read" or is_own(event.name)):
         return event.part.members
     return (event.part,)
 

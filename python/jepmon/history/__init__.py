@@ -46,10 +46,10 @@ class Operation(NamedTuple):
         return "open" if self.completion is None else self.completion.kind
 
 
-def read_history(text: str, before: int = 0) -> List[Event]:
-    """The events of a history in jepmon's own form, or of the rest of one after `before` events."""
+def read_history(text: str, before: int = 0, own: kinds.OwnNames = kinds.NO_NAMES) -> List[Event]:
+    """The events of a history in jepmon's own form, or of the rest of one after `before` events. `own` has the names of a file of objects."""
     try:
-        return [event_of(index, element) for index, element in enumerate(edn.Reader(text, profile=True).elements(), before)]
+        return [event_of(index, element, own) for index, element in enumerate(edn.Reader(text, profile=True).elements(), before)]
     except edn.Unreadable as fault:
         raise HistoryError(fault.line, fault.reason) from fault
 
@@ -80,13 +80,13 @@ def of_key(events: Iterable[Event], key: int) -> List[Event]:
 OWN = frozenset({":type", ":process", ":f", ":value"})
 
 
-def event_of(index: int, element: edn.Element) -> Event:
+def event_of(index: int, element: edn.Element, own: kinds.OwnNames = kinds.NO_NAMES) -> Event:
     """The element as an event that the program accepts as the event with this index."""
     fields = edn.fields_of(element.value) or {}
-    made = client_event(index, element, fields) if fields.get(":process") != ":nemesis" else nemesis_event(index, element, fields)
+    made = client_event(index, element, fields, own) if fields.get(":process") != ":nemesis" else nemesis_event(index, element, fields)
     stated = edn.integer(fields.get(":index", "0"))
     if made is None or stated is None or stated not in kinds.INDICES:
-        raise HistoryError(element.line, fault_of(element.value))
+        raise HistoryError(element.line, fault_of(element.value, own))
     if ":index" in fields and stated != index:
         raise HistoryError(element.line, f"it states :index {stated}, and {index} events came before it: leave the indices out")
     if index >= kinds.EVENTS:
@@ -94,11 +94,13 @@ def event_of(index: int, element: edn.Element) -> Event:
     return made
 
 
-def client_event(index: int, element: edn.Element, fields: Dict[str, edn.Value]) -> Optional[Event]:
+def client_event(index: int, element: edn.Element, fields: Dict[str, edn.Value], own: kinds.OwnNames) -> Optional[Event]:
     """Returns an event of a client. None if the element is not such an event."""
     kind, name = edn.keyword(fields.get(":type")), edn.keyword(fields.get(":f"))
     process, value = edn.integer(fields.get(":process")), fields.get(":value")
-    if kind not in kinds.EVENT_TYPES or name not in kinds.OPERATIONS or process is None or process not in kinds.PROCESSES:
+    if kind not in kinds.EVENT_TYPES or process is None or process not in kinds.PROCESSES:
+        return None
+    if name not in kinds.OPERATIONS and name not in own:
         return None
     if not isinstance(value, edn.Many) or value.opened != "[" or len(value.members) != 2:
         return None
@@ -106,7 +108,7 @@ def client_event(index: int, element: edn.Element, fields: Dict[str, edn.Value])
     if kind is None or name is None or key is None or key not in kinds.KEYS:
         return None
     try:
-        part = part_of(kind, name, value.members[1])
+        part = part_of(kind, name, value.members[1]) if name in kinds.OPERATIONS else part_of_own(value.members[1], own[name] and kind != "ok")
     except ValueError:
         return None
     return Event(index, kind, process, name, key, part, element.line, " ".join(element.text.split()), further(fields))
@@ -124,6 +126,23 @@ def part_of(kind: str, name: str, part: edn.Value) -> Value:
                 return frozenset(numbers) if name == "read" else two(numbers)
         elif name != "cas" and edn.integer(part) is not None:
             return int(part)
+    raise ValueError(part)
+
+
+def part_of_own(part: edn.Value, has_client: bool) -> Value:
+    """The operand of an event whose name a file of objects declares: nil, an integer or two. With a client before it, nil or an integer."""
+    if part == "nil":
+        return None
+    if isinstance(part, str):
+        number = edn.integer(part)
+        numbers, are_two = [] if number is None else [number], False
+    else:
+        numbers, are_two = [int(member) for member in part.members if edn.integer(member) is not None], part.opened == "["
+    if all(number in kinds.VALUES for number in numbers):
+        if isinstance(part, str) and numbers:
+            return numbers[0]
+        if are_two and not has_client and len(numbers) == 2 and not isinstance(part, str) and len(part.members) == 2:
+            return two(numbers)
     raise ValueError(part)
 
 

@@ -12,8 +12,9 @@ DRAIN = "takes several messages out of a queue; {} takes it apart into dequeues"
 PARTS = {"cas": "two integers, as [1 2]", "read": "nil, an integer or a set of integers"}
 
 
-def fault_of(value: Value) -> str:
-    """Says which part of an invalid event is outside the tables of docs/FORMATS.md."""
+def fault_of(value: Value, own: kinds.OwnNames = kinds.NO_NAMES) -> str:
+    """Says which part of an invalid event is outside the tables of docs/FORMATS.md. `own` has the names of operations that a file of objects
+    declares."""
     fields = fields_of(value)
     if fields is None:
         return of_no_map(value)
@@ -27,7 +28,7 @@ def fault_of(value: Value) -> str:
     process = integer(fields[":process"])
     if process is None or process not in kinds.PROCESSES:
         return f"its :process is {spelling(fields[':process'])}, which is not an integer from 0 on"
-    return of_operation(fields)
+    return of_operation(fields, own)
 
 
 def of_no_map(value: Value) -> str:
@@ -36,15 +37,15 @@ def of_no_map(value: Value) -> str:
     return "it is not a map, so not an event; commands such as [:model k m] are of jepmon script"
 
 
-def of_operation(fields: Dict[str, Value]) -> str:
+def of_operation(fields: Dict[str, Value], own: kinds.OwnNames) -> str:
     """The invalid part of an event of a client."""
     name, value = keyword(fields[":f"]), fields[":value"]
-    if name in kinds.NOT_JUDGED:
+    if name in kinds.NOT_JUDGED and name not in own:
         return f":{name} {kinds.NOT_JUDGED[name or '']}"
-    if name == "drain":
+    if name == "drain" and name not in own:
         return f":drain {DRAIN.format(tool('from-jepsen'))}"
-    if name not in kinds.OPERATIONS:
-        return f"no object has the operation {spelling(fields[':f'])}; they have {', '.join(sorted(kinds.OPERATIONS))}"
+    if name not in kinds.OPERATIONS and name not in own:
+        return f"no object has the operation {spelling(fields[':f'])}; they have {', '.join(sorted({*kinds.OPERATIONS, *own}))}"
     if not isinstance(value, Many) or value.opened != "[" or len(value.members) != 2:
         return f"its :value is not [key part]; where the history has no keys, {tool('from-jepsen')} --key 0 makes each value one"
     key = integer(value.members[0])
@@ -53,7 +54,15 @@ def of_operation(fields: Dict[str, Value]) -> str:
     index = integer(fields.get(":index", "0"))
     if index is None or index not in kinds.INDICES:
         return f"its :index is {spelling(fields[':index'])}, which is not an integer from 0 on"
+    if name in own:
+        return of_own_part(keyword(fields[":type"]), name or "", key, own)
     return of_part(keyword(fields[":type"]), name, key)
+
+
+def of_own_part(kind: Optional[str], name: str, key: int, own: kinds.OwnNames) -> str:
+    if own[name] and kind != "ok":
+        return f"the part of :{kind} of {name} is nil or an integer, as in [{key} 5], since it asks for its client"
+    return f"the part of :{kind} of {name} is nil, an integer or two integers, as in [{key} [1 2]]; 1 means true, and 0 means false"
 
 
 def of_part(kind: Optional[str], name: Optional[str], key: int) -> str:

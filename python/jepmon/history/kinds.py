@@ -1,7 +1,7 @@
 """The six kinds of objects that jepmon judges (its models), their operations, and the limits of the program."""
 from __future__ import annotations
 
-from typing import Dict, FrozenSet, Tuple
+from typing import Dict, FrozenSet, Mapping, Tuple
 
 # Each model and its operations. If two models have the same operations, the stricter one comes first.
 MODELS: Dict[str, FrozenSet[str]] = {
@@ -27,6 +27,9 @@ OPERATIONS: FrozenSet[str] = frozenset().union(*MODELS.values())
 REGISTERS: Tuple[str, ...] = ("register", "cas-register")
 QUEUES: Tuple[str, ...] = ("fifo-queue", "unordered-queue")
 
+OwnNames = Mapping[str, bool]  # names of operations that a file of objects declares, and whether each asks for its client
+NO_NAMES: OwnNames = {}
+
 ANSWERED = frozenset({"read", "dequeue"})  # operations whose ok has an answer
 WITHOUT_PART = frozenset({"read", "dequeue", "acquire", "release"})  # operations that are invoked with nil
 BROUGHT = {"write": "written", "cas": "set", "add": "added", "enqueue": "enqueued"}  # operations that bring a value in, and the verb for it
@@ -37,6 +40,8 @@ NOT_JUDGED = {  # other operations that tests have, and their descriptions
     "transfer": "moves an amount between the accounts of a bank, which jepmon does not judge: such a test adds up all "
                 "accounts in each read (Jepsen's own jepsen.tests.bank does)",
 }
+
+COUNTER = "a counter, which jepmon judges only by its rules: --objects FILE, as docs/guide/OBJECTS.md says"
 
 KEYS = range(0, 1 << 16)
 VALUES = range(-(1 << 63), 1 << 63)

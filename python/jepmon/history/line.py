@@ -4,7 +4,7 @@ from __future__ import annotations
 import re
 from typing import Any
 
-LINE = re.compile(r"\{:type :(invoke|ok|fail|info), :process ([0-9]+), :f :([a-z]+), "
+LINE = re.compile(r"\{:type :(invoke|ok|fail|info), :process ([0-9]+), :f :([A-Za-z][A-Za-z0-9_?!*.-]*), "
                   r":value \[([0-9]+) (nil|[+-]?[0-9]+|\[[^\]]*\]|#\{[^}]*\})\](, [^\n]*)?\}")  # the last group has the further fields
 TIME = re.compile(r", :time (-?[0-9]+)")
 FRONT = b"{:type :%b, :process %d, :f :%b, :value ["  # the beginning of the same line in bytes, up to the key

@@ -74,7 +74,7 @@ def outcomes_of(outcomes: Mapping[str, int]) -> Dict[str, Dict[str, int]]:
 
 def of_key(done: Results, key: Shown, source: Source) -> Object:
     """Returns the object for a key that is not legal."""
-    names = Names(done.found.value_names, done.found.key_names)
+    names = Names(done.found.value_names, done.found.key_names, key.options.answering)
     event = next((event for event in key.events if event.index == key.line.index), None)
     part = key.cause.part if key.cause is not None else None
     return {
@@ -83,7 +83,7 @@ def of_key(done: Results, key: Shown, source: Source) -> Object:
         "event": {"index": key.line.index, **where(event, source)},
         "cause": None if key.cause is None else {"headline": key.cause.headline, "sentences": list(key.cause.sentences),
                                                  "proviso": key.cause.proviso},
-        "is_proved": key.decided is None or not proviso(key),
+        "is_proved": key.decided is None or key.options.own is None and not proviso(key),
         "smallest_part": None if part is None else {
             "operations": [of_operation(operation, names, source) for operation in operations(part.events, key.options.concurrency)],
             "of": part.of, "is_smallest": part.finished},
@@ -92,7 +92,8 @@ def of_key(done: Results, key: Shown, source: Source) -> Object:
 
 def of_operation(operation: Operation, names: Names, source: Source) -> Object:
     name, asked = operation.invocation.name, operation.invocation.value
-    answer = operation.completion.value if operation.completion is not None and name in ANSWERED and operation.outcome == "ok" else None
+    answers = name in ANSWERED or name in names.answering
+    answer = operation.completion.value if operation.completion is not None and answers and operation.outcome == "ok" else None
     return {"client": operation.thread, "name": name, "value": shown(asked, names), "answer": shown(answer, names),
             "outcome": operation.outcome, "invoked": at(operation.invocation, source),
             "completed": at(operation.completion, source) if operation.completion is not None else None}

@@ -22,6 +22,7 @@ from ..history import Event
 from ..history import kinds
 from ..program import Options, Report, equal_values, keys_by_ends
 from ..program.report import DEAD, Verdict, key_line, report_on
+from ..rules import Objects
 from ..shards.cluster import judged_on
 from ..shards.judging import Judged
 from ..shards.models import EACH
@@ -72,7 +73,7 @@ def asked(given: Given, found: Large) -> Asked:
 @contextlib.contextmanager
 def opened(given: Given, found: Large, history: Asked) -> Iterator[shards.Session]:
     """The shards of a history, read."""
-    options = Options(history.concurrency or 2, given.model or "register", given.budget, by_ends=given.by_ends)
+    options = Options(history.concurrency or 2, given.model or "register", given.budget, by_ends=given.by_ends, objects=given.objects)
     with shards.opened(history.history, options, given.jobs, temporary=given.temporary, progress=shards.Progress(sys.stderr),
                        finds_threads=history.concurrency is None, sizes=OF_TRANSLATIONS if found.made is not None else Sizes()) as session:
         session.read()
@@ -106,7 +107,7 @@ def judge(given: Given, found: Large, page: Optional[Page], folder: Optional[Fol
 
 
 def _refuse(given: Given, found: Large, line: str) -> int:
-    for hint in hints_of_refusal(found, line, Options(given.concurrency or 2, given.model or "register", given.budget)):
+    for hint in hints_of_refusal(found, line, Options(given.concurrency or 2, given.model or "register", given.budget, objects=given.objects)):
         say(hint)
     if given.json:
         as_json.write_refusal(line)
@@ -124,7 +125,8 @@ def _judge_asked(given: Given, found: Large, page: Optional[Page], folder: Optio
 
 
 def _judge(given: Given, found: Large, history: Asked, session: shards.Session, page: Optional[Page], folder: Optional[Folder]) -> int:
-    choice = chosen(session.tally, given.model, history.made)
+    choice = chosen(session.tally, given.model, history.made, given.objects)
+    test_objects(given, choice)
     if history.made is None:
         history.account.add(session.account())
     account_for(choice, history.account)
@@ -146,7 +148,7 @@ def _judge(given: Given, found: Large, history: Asked, session: shards.Session, 
     report = report_of(path, verdict)
     task = task._replace(choice=of_bad_key(choice, report), wide_seconds=given.wide_seconds if decided else None, least=given.least)
     tally = session.tally
-    few = least.reason(given, report.word, least.telling(tally.outcomes(), tally.number_of("read", "ok") - tally.reads_of_nil()))
+    few = least.reason(given, report.word, least.telling(tally.outcomes(), tally.number_of("read", "ok") - tally.reads_of_nil(), given.objects))
     if not given.json and not few:
         command.write_output(texts_of(path))
     recorded = _recorded(found, history, page is not None or folder is not None)
@@ -282,10 +284,28 @@ def lines_of(path: str) -> Iterator[str]:
 # --- The model ---
 
 
-def chosen(tally: Tally, model: Optional[str], made: Optional[Turned] = None) -> Choice:
-    """The model of all keys: the given one, otherwise the strictest model that has all operations and answers of the history."""
+def test_objects(given: Given, choice: Choice) -> None:
+    """Refuses a file of objects that shards cannot have."""
+    if given.objects is None:
+        return
+    if given.dask is not None:
+        raise Refused("the workers of a Dask cluster have no file of objects: leave --dask out")
+    asking = given.objects.asking([choice.common] if choice.common else list(given.objects))
+    if asking is not None:
+        raise Refused(f"operations of {asking} ask for their client, and in shards clients get new numbers: leave --jobs out, or record the client as "
+                      "an argument")
+
+
+def chosen(tally: Tally, model: Optional[str], made: Optional[Turned] = None, objects: Optional[Objects] = None) -> Choice:
+    """The model of all keys: the given one. Otherwise it is the only object of a file that has all operations of the history, and otherwise
+    the strictest model that has all its operations and answers."""
     if model is not None:
         return Choice({}, model, "as --model says")
+    own = [] if objects is None else objects.having(frozenset(tally.names()))
+    if len(own) > 1:
+        raise Refused(f"its keys may be {' or '.join(own)}: --model NAME says which of them they are")
+    if own:
+        return Choice({}, own[0], by_operations(own[0], tally.names()), is_guess=True)
     if made is not None and made.model is not None:
         return Choice({}, made.model, by_operations(made.model, tally.names()), is_guess=True)
     names, answers = tally.names(), tally.number_of("read", "ok") - tally.reads_of_nil() - tally.sets
@@ -344,4 +364,4 @@ def hints_of_refusal(found: Large, line: str, options: Options) -> Iterator[str]
     """Why an event is refused, if it is near the beginning of a file in jepmon's own form."""
     index = line.rpartition(" event ")[2]
     if found.path is not None and found.made is None and index.isdigit() and int(index) < MOST_EVENTS and options.concurrency <= kinds.THREADS:
-        yield from explained(line, large_key.front_lines(found.path, int(index) + 1), Explained(options.concurrency, options.model))
+        yield from explained(line, large_key.front_lines(found.path, int(index) + 1), Explained(options.concurrency, options.model, names=options.own_names))

@@ -71,7 +71,7 @@ def given(found: Recorded, key: Shown) -> page.PageInput:
         verdict=key.report.verdict, key=number, events=key.events, model=key.options.model, concurrency=key.options.concurrency,
         budget=key.options.budget, headline=key.cause.headline if key.cause is not None else "",
         sentences=sentences(key), smallest=part.events if part is not None else (), faults=found.faults, names=found.value_names,
-        key_name=found.key_names.get(number, ""), proviso=proviso(key))
+        key_name=found.key_names.get(number, ""), proviso=proviso(key), own=key.options.own)
 
 
 def sentences(key: Shown) -> List[str]:
@@ -87,7 +87,9 @@ def sentences(key: Shown) -> List[str]:
 
 
 def proviso(key: Shown) -> str:
-    """Says which part of a later decision is proved. The text is empty for any other key."""
+    """Says which part is proved of a later decision, or of the sentences about an object of a file. The text is empty for any other key."""
+    if key.options.own is not None:
+        return causes.BY_RULES
     if key.decided is None or key.decided.index is None and not key.decided.is_proved:
         return ""
     return BY_ORDER if key.decided.index is None else BY_PART
@@ -96,7 +98,7 @@ def proviso(key: Shown) -> str:
 def page_of(name: str, found: Recorded, task: Task, key: Shown) -> page.PageInput:
     """The fields for the page of a key."""
     line = next((text for text in key.report.text.splitlines() if text.startswith(f"key {key.line.key} ")), "")
-    return given(found, key)._replace(report=line, file=name, walked=walked(found, key), again=task.again("history.edn"))
+    return given(found, key)._replace(report=line, file=name, walked=walked(found, key), again=task.in_folder().again("history.edn"))
 
 
 def walked(found: Recorded, key: Shown) -> Optional[page.Walked]:

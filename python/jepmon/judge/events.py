@@ -29,13 +29,14 @@ def with_fields(found: Recorded, keys: Iterable[int]) -> Dict[int, List[Event]]:
 def of_keys(found: Recorded, keys: Iterable[int]) -> Dict[int, List[Event]]:
     """The events of each of these keys, with their indices in the whole history and their lines in the given file."""
     events: Dict[int, List[Event]] = {key: [] for key in keys}
+    own = found.own_names
     wanted = frozenset(map(str, events))
     index = -1
     for line in found.text.split("\n"):
         if line.startswith("{"):
             index += 1
             if not wanted.isdisjoint(KEY.findall(line)):
-                event = history.read_history(line, index)[0]
+                event = history.read_history(line, index, own)[0]
                 if event.key in events:
                     events[event.key].append(event._replace(line=found.line(index)))
     return events

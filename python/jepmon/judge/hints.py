@@ -74,7 +74,8 @@ def _of_refusal(history: Recorded, task: Task, report: Report, index: int) -> It
     last = history.lines[index] if history.is_own and not history.has_commands else index + 1
     lines = history.text.split("\n")[:last]
     if len(lines) <= MOST_EVENTS:
-        yield from explained(report.verdict, "\n".join(lines).encode(), Explained(task.options.concurrency, task.options.model))
+        yield from explained(report.verdict, "\n".join(lines).encode(), Explained(task.options.concurrency, task.options.model,
+                                                                                                       names=task.options.own_names))
 
 
 def is_legal_as(model: str, events: Sequence[Event], options: Options) -> bool:

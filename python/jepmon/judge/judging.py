@@ -61,19 +61,25 @@ class Task(NamedTuple):
         """Whether only jepmon-judge can judge the history again in this way."""
         return self.in_shards or self.wide_seconds is not None
 
+    def in_folder(self) -> Task:
+        """Returns the task in a folder that has a copy of the file of objects."""
+        objects = self.options.objects
+        return self if objects is None else self._replace(options=self.options._replace(objects=objects.beside()))
+
     def again(self, file: str) -> str:
         """Returns the command that judges the history again from this file, which also has the commands for models and budgets."""
         if self.by_judge:
             words = [f"--concurrency {self.options.concurrency}", f"--budget {self.options.budget}"]
             words += [f"--model {self.choice.common}"] if self.choice.common else []
             words += ["--by-ends"] if self.options.by_ends else []
+            words += [f"--objects {shlex.quote(self.options.objects.path)}"] if self.options.objects is not None else []
             words += [f"--decide-seconds {self.wide_seconds}"] if self.wide_seconds is not None else []
             words += [f"--min-ok {self.least}"] if self.least != 1 else []
             jobs = f" --jobs {os.cpu_count() or 1}" if self.in_shards else ""
             return f"jepmon-judge {shlex.quote(file)}{jobs} {' '.join(words)}"
         if self.commands:
-            return f"jepmon script {' '.join(self.script_words)} < {shlex.quote(file)}"
-        return f"jepmon check {shlex.quote(file)} {' '.join(self.options.words())}"
+            return f"jepmon script {shlex.join(self.script_words)} < {shlex.quote(file)}"
+        return f"jepmon check {shlex.quote(file)} {shlex.join(self.options.words())}"
 
 
 def judged(task: Task) -> Tuple[Task, Report]:
@@ -96,6 +102,7 @@ def _by_script(task: Task, raw: bytes, keys: Sequence[KeyLine]) -> Report:
     except OSError as fault:
         raise program.ProgramError(f"{name} can't be run: {fault.strerror}; {program.CURE}") from fault
     replies = ran.stdout.decode("utf-8", "replace")
+    program.test_objects(name, task.script_words, ran.stderr)
     refused = re.search(r"^refused .*$", replies, re.M)
     if refused:
         return program.report_of(refused.group() + "\n", "", program.STATUSES["refused"])

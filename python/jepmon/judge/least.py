@@ -2,16 +2,19 @@
 legal too: neither says anything about the store."""
 from __future__ import annotations
 
-from typing import Mapping
+from typing import Mapping, Optional
 
+from ..rules import Objects
 from .words import Given
 
 TELLING = ("cas", "acquire", "release", "dequeue")  # an ok of one of these is an answer; the ok of a read is an answer if it has a value
 
 
-def telling(outcomes: Mapping[str, int], reads: int) -> int:
-    """The number of ok operations whose answers say something: these operations by "NAME ok", and the number of reads with an answer."""
-    return sum(outcomes.get(f"{name} ok", 0) for name in TELLING) + reads
+def telling(outcomes: Mapping[str, int], reads: int, objects: Optional[Objects] = None) -> int:
+    """The number of ok operations whose answers say something: these operations by "NAME ok", those of a file of objects that may be
+    wrong, and the number of reads with an answer."""
+    names = {*TELLING, *(objects.telling if objects is not None else ())} - {"read"}
+    return sum(outcomes.get(f"{name} ok", 0) for name in names) + reads
 
 
 def reason(given: Given, word: str, count: int) -> str:

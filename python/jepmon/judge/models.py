@@ -7,6 +7,7 @@ from ..forms import Refused
 from ..forms.account import MODEL, Account
 from ..forms.own import Facts, KeyFacts, concurrency_of, possible
 from ..history import kinds
+from ..rules import Objects
 
 __all__ = ["ALIKE", "Choice", "account_for", "answered", "by_operations", "chosen", "clients_of", "concurrency_of", "possible"]
 ALIKE = {"fifo-queue": "unordered-queue"}  # a stricter model, and the laxer model with the same operations
@@ -24,23 +25,34 @@ class Choice(NamedTuple):
         return self.common or self.models[key]
 
 
-def chosen(facts: Facts, given: Optional[str], stated: Mapping[int, str], known: Mapping[int, Sequence[str]]) -> Choice:
-    """The model of each key. It is the model that the history states for the key. Otherwise it is the given model, otherwise one of the
-    known possible models, and otherwise a model by its operations."""
+def chosen(facts: Facts, given: Optional[str], stated: Mapping[int, str], known: Mapping[int, Sequence[str]],
+           objects: Optional[Objects] = None) -> Choice:
+    """The model of each key. It is the model that the history states for the key. Otherwise it is the given model, otherwise an object of
+    the file by its operations, otherwise one of the known possible models, and otherwise a model by its operations."""
     by_key: Dict[int, Sequence[str]] = {}
     for key, of_key in facts.keys.items():
-        by_key[key] = [stated[key]] if key in stated else [given] if given else known[key] if key in known else possible(of_key)
+        own = [] if objects is None or given or key in stated else _of_file(key, of_key, objects)
+        by_key[key] = [stated[key]] if key in stated else [given] if given else own or (known[key] if key in known else possible(of_key))
         if not by_key[key]:
             raise Refused(f"key {key} has {' and '.join(sorted(of_key.names))}, which no object has together; --model NAME judges it "
                           "all the same")
         if not given and key not in stated:
             _test_counter(key, of_key, by_key[key])
-    common = [model for model in kinds.MODELS if all(model in models for models in by_key.values())]
+    common = [model for model in [*(objects or ()), *kinds.MODELS] if all(model in models for models in by_key.values())]
     is_guess = given is None and any(key not in stated for key in facts.keys)
     if common:
         return Choice({}, common[0], _reason(facts, common[0], given, stated), is_guess)
     models = {key: models[0] for key, models in by_key.items()}
-    return Choice(models, None, "its keys are of several kinds: " + _counted(models), is_guess)
+    return Choice(models, None, "its keys are of several kinds: " + _counted(models, [*(objects or ()), *kinds.MODELS]), is_guess)
+
+
+def _of_file(key: int, facts: KeyFacts, objects: Objects) -> Sequence[str]:
+    """Returns the object of the file that has all operations of the key."""
+    found = objects.having(frozenset(facts.names))
+    if len(found) > 1:
+        raise Refused(f"key {key} has {' and '.join(sorted(facts.names))}, and so have {' and '.join(found)} of {objects.path}: --model NAME says "
+                      "which of them it is")
+    return found
 
 
 def account_for(choice: Choice, account: Account) -> None:
@@ -52,8 +64,7 @@ def account_for(choice: Choice, account: Account) -> None:
 def _test_counter(key: int, facts: KeyFacts, models: Sequence[str]) -> None:
     """Refuses a counter: a read of a set answers its members, and a read of a counter answers a sum."""
     if list(models) == ["set"] and facts.reads > facts.reads_of_nil + facts.reads_of_sets:
-        raise Refused(f"key {key} has adds, and reads answered by integers: this is a counter, which jepmon does not judge "
-                      "(jepsen.checker/counter does)")
+        raise Refused(f"key {key} has adds, and reads answered by integers: this is {kinds.COUNTER}")
 
 
 def _reason(facts: Facts, common: str, given: Optional[str], stated: Mapping[int, str]) -> str:
@@ -74,8 +85,8 @@ def by_operations(model: str, names: Sequence[str]) -> str:
     return f"by its operations: {', '.join(names)}{more}"
 
 
-def _counted(models: Dict[int, str]) -> str:
-    counts = {model: list(models.values()).count(model) for model in kinds.MODELS}
+def _counted(models: Dict[int, str], known: Sequence[str]) -> str:
+    counts = {model: list(models.values()).count(model) for model in known}
     return ", ".join(f"{count} {model}" for model, count in counts.items() if count)
 
 

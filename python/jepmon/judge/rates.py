@@ -93,7 +93,7 @@ def page_of(given: Given, timed: Timed, bad_page: str) -> RatesPage:
     facts = [("file", given.name), ("form", given.form), ("model", task.choice.common or "several"), ("clients", str(task.options.concurrency)),
              ("events", f"{given.events:,}")]
     links = [("the bad key", bad_page)] if report.key is not None else []
-    return RatesPage(report.verdict, timed.reader.gathered, timed.faults, keys, facts, task.again("history.edn"), links,
+    return RatesPage(report.verdict, timed.reader.gathered, timed.faults, keys, facts, task.in_folder().again("history.edn"), links,
                      notes=list(notes(timed)))
 
 

@@ -7,6 +7,7 @@ from .. import page
 from ..forms import faults
 from ..forms.recorded import Recorded
 from ..program import Report
+from ..rules.file import COPY
 from ..tools import command
 from . import bad_keys, causes
 from .judging import Task
@@ -76,8 +77,9 @@ def files(results: Results) -> Dict[str, Optional[str]]:
         HISTORY: "".join(line + "\n" for line in task.commands) + text,
         REPORT: report.text or report.error,
         CAUSE: "".join(line + "\n" for line in results.lines) or None,
-        AGAIN: again(task),
+        AGAIN: again(task.in_folder()),
         VERDICT: report.verdict + "\n",
+        COPY: None if task.options.objects is None else task.options.objects.text.decode(),
     }
 
 

@@ -96,7 +96,7 @@ def _judge_to(given: Given, page: Optional[Page], folder: Optional[Folder]) -> i
     with named(source):
         made = door.translated(source, form, given.said)
         if not large.is_asked(given):
-            reason, found = _whole(made)
+            reason, found = _whole(made, given)
     if reason is not None:
         return by_shards.judge(given, large.Large(source, made, reason), page, folder)
     assert found is not None
@@ -112,11 +112,11 @@ def named(source: files.Source) -> Iterator[None]:
         raise Refused(f"{source.name}: {refusal}") from refusal
 
 
-def _whole(made: Translation) -> Tuple[Optional[str], Optional[Recorded]]:
+def _whole(made: Translation, given: Given) -> Tuple[Optional[str], Optional[Recorded]]:
     """Returns the history for one check, or the reason why one check can't judge it."""
     reason = made.reason_for_shards()
     try:
-        return reason, of_translation(made) if reason is None else None
+        return reason, of_translation(made, given.said) if reason is None else None
     except Beyond as beyond:
         return str(beyond), None
 
@@ -125,7 +125,7 @@ def _judge_own(source: files.Source, given: Given, page: Optional[Page], folder:
     """Judges a history in jepmon's own form. None if it is not in this form after all, so that it is read as a history of Jepsen."""
     with named(source):
         reason = "" if large.is_asked(given) else large.reason_of_own(source)
-        found = of_own(source) if reason is None else None
+        found = of_own(source, given.said) if reason is None else None
         if reason == "":
             large.refuse_commands(source.front)
         if reason is None and found is None and large.has_wide_key(source.text):
@@ -156,7 +156,7 @@ def _judge_whole(source: files.Source, found: Recorded, given: Given, page: Opti
         readings.test(given, readings.Judged(found, task.choice, report.word, report.keys, task.options.concurrency, functools.partial(events.of_keys, found)),
                       functools.partial(tasks.word_of, source))
     beside = list(hints.after(found, task, report, given))
-    few = least.reason(given, report.word, least.telling(found.facts.outcomes, models.answered(found.facts)))
+    few = least.reason(given, report.word, least.telling(found.facts.outcomes, models.answered(found.facts), given.objects))
     if not given.json and not few:
         command.write_output([report.text or report.error])
     for line in beside:

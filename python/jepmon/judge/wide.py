@@ -33,7 +33,7 @@ Decisions = Dict[int, Decided]
 def over(lines: Iterable[str], options: Options) -> Iterator[Over]:
     """The keys that are over their budget, by the lines of a report."""
     for found in filter(None, map(key_line, lines)):
-        if found.status == "over":
+        if found.status == "over" and options.of_line(found).own is None:  # no search knows the rules of an object of a file
             yield Over(found.key, options.of_line(found), found.events)
 
 

@@ -5,10 +5,12 @@ import argparse
 import sys
 from typing import List, NamedTuple, Optional, Sequence
 
+from .. import rules
 from ..forms import Refused, mapping_words, meant_words
 from ..forms.door import Options as Said
 from ..forms.mapping import Mapping
 from ..history import kinds
+from ..rules import Objects
 from ..tools import command
 
 NAME = "judge"
@@ -53,11 +55,13 @@ class Given(NamedTuple):
     mapping: Mapping = Mapping()  # the stated meaning of the fields of rows
     nil_is_unknown: bool = False
     by_ends: bool = False
+    objects: Optional[Objects] = None  # the objects of a file
 
     @property
     def said(self) -> Said:
         """The options about the history."""
-        return Said(self.key, self.nil_is_absent, self.model, self.mapping, values=self.values, absent=self.absent, initial=self.initial)
+        return Said(self.key, self.nil_is_absent, self.model, self.mapping, values=self.values, absent=self.absent, initial=self.initial,
+                    objects=self.objects)
 
 
 class Words(command.Words):
@@ -84,8 +88,9 @@ def _parser() -> Words:
     parser = Words(prog=called, description=DESCRIPTION.format(tool=called), formatter_class=argparse.RawDescriptionHelpFormatter)
     parser.add_argument("history", nargs="*", metavar="HISTORY", help="a file or a folder; - or nothing is standard input; several files, such as "
                         "those of several clients, are one history in the order of their times")
-    parser.add_argument("--model", metavar="NAME", type=kinds.model_of, choices=tuple(kinds.MODELS),
-                        help="the object that each key is, instead of the one found: " + ", ".join(kinds.MODELS))
+    parser.add_argument("--model", metavar="NAME", type=kinds.model_of,
+                        help="the object that each key is, instead of the one found: " + ", ".join(kinds.MODELS) + ", or an object of --objects")
+    parser.add_argument("--objects", metavar="FILE", help="a file with objects of your own, by their rules (docs/guide/OBJECTS.md)")
     parser.add_argument("--concurrency", metavar="N", type=number("a number of threads", range(1, kinds.PROCESSES.stop)),
                         help="the threads of the clients, instead of the number found; more than 64 are judged in shards")
     parser.add_argument("--budget", metavar="N", type=number("a number of ends", kinds.BUDGETS), default=kinds.BUDGET,
@@ -98,8 +103,8 @@ def _parser() -> Words:
                         "processors")
     parser.add_argument("--dask", metavar="ADDRESS", help="judge the shards on the Dask cluster of this scheduler, such as "
                         "tcp://HOST:8786; its workers need the program, and distributed must be installed here")
-    parser.add_argument("--temporary", metavar="DIR", help="the folder for all temporary files: about half the room of a file of events; "
-                        "for a pipe, JSON, CSV or a log, its events too, about 80 bytes an event of a register")
+    parser.add_argument("--temporary", metavar="DIR", help="the folder for all temporary files; they take about half as much room as a file of "
+                        "events. For a pipe, JSON, CSV or a log they also store its events, and an event of a register takes about 80 bytes")
     parser.add_argument("--key", metavar="K", type=number("a key", kinds.KEYS),
                         help="the history has no keys: each value in it is of key K")
     nil = parser.add_mutually_exclusive_group()
@@ -130,6 +135,8 @@ def given(words: Optional[List[str]]) -> Given:
         mapping = mapping_words.of(parsed)
         if not parsed.history and sys.stdin is not None and sys.stdin.isatty():
             parser.error("no history is named, and standard input is a terminal")
+        objects = objects_of(parsed.objects)
+        test_model(parser, parsed.model, objects)
     except Refused as fault:
         raise Refused(f"{fault}; see {command.tool(NAME)} --help") from fault
     key = None if parsed.key is None else str(parsed.key)
@@ -137,4 +144,19 @@ def given(words: Optional[List[str]]) -> Given:
     return Given(parsed.history or ["-"], parsed.model, parsed.concurrency, parsed.budget, parsed.workers, key, parsed.nil_is_absent,
                  parsed.html, parsed.out, parsed.cause, parsed.jobs, parsed.dask, parsed.temporary, seconds, parsed.strict_input,
                  parsed.json, parsed.least, parsed.values, tuple(parsed.absent), parsed.initial, mapping, parsed.nil_is_unknown,
-                 parsed.by_ends)
+                 parsed.by_ends, objects)
+
+
+def objects_of(path: Optional[str]) -> Optional[Objects]:
+    """Returns the objects of the file, if one is named."""
+    try:
+        return None if path is None else rules.read(path)
+    except rules.Refused as fault:
+        raise Refused(str(fault)) from fault
+
+
+def test_model(parser: Words, model: Optional[str], objects: Optional[Objects]) -> None:
+    """Tests that the model is one of the program's, or an object of the file."""
+    known = [*(objects or ()), *kinds.MODELS]
+    if model is not None and model not in known:
+        parser.error(f"argument --model: invalid choice: {model!r} (choose from {', '.join(known)})")

@@ -7,6 +7,7 @@ from typing import List, NamedTuple, Tuple
 
 from ..history import Event, read_history
 from ..history.fault_notes import Fault, faults_of
+from ..history.kinds import NO_NAMES, OwnNames
 from ..history.line import LINE, TIME, part_of_text
 from ..program import ProgramError, Report
 from ..program.report import KeyLine, Verdict, report_on
@@ -51,7 +52,7 @@ def _told(folder: RunFolder, bad: Bad) -> Told:
     from ..causes import cause
     from ..objects import configurations as walk
 
-    events, faults = read(folder.path / HISTORY, bad.key)
+    events, faults = read(folder.path / HISTORY, bad.key, folder.options.own_names)
     report = report_of(bad, len(events))
     own = folder.options.of_line(report.keys[0], folder.program)
     found = cause.explain(events, report, folder.options, program=folder.program, faults=faults)
@@ -62,7 +63,8 @@ def _told(folder: RunFolder, bad: Bad) -> Told:
         verdict=bad.reply, key=bad.key, events=events, model=bad.model, concurrency=folder.options.concurrency, budget=bad.budget,
         report=report.text.split("\n")[0], file=f"{folder.name}/{HISTORY}", walked=walked, faults=faults, again=f"jepmon {folder.again}",
         headline=found.headline if found is not None else "", sentences=found.sentences if found is not None else (),
-        smallest=found.part.events if found is not None and found.part is not None else ()))
+        smallest=found.part.events if found is not None and found.part is not None else (), own=own.own,
+        proviso=cause.BY_RULES if own.own is not None else ""))
     return Told(cause.lines(found) if found is not None else [], drawn)
 
 
@@ -74,7 +76,7 @@ def read_again(folder: RunFolder) -> List[str]:
         return []
 
 
-def read(history: pathlib.Path, key: int) -> Tuple[List[Event], List[Fault]]:
+def read(history: pathlib.Path, key: int, names: OwnNames = NO_NAMES) -> Tuple[List[Event], List[Fault]]:
     """The events of the key, with their places in the whole history, and the faults in its notes. This package has written the history,
     with one event in each line."""
     with open(history, encoding="utf-8", newline="\n") as file:
@@ -85,16 +87,16 @@ def read(history: pathlib.Path, key: int) -> Tuple[List[Event], List[Fault]]:
         if line.startswith("{"):
             index += 1
             if wanted in line:
-                events.append(event_of(line, index, number))
+                events.append(event_of(line, index, number, names))
     return events, faults_of(lines)
 
 
-def event_of(line: str, index: int, number: int) -> Event:
+def event_of(line: str, index: int, number: int, names: OwnNames = NO_NAMES) -> Event:
     """The event of a line that this package has written. It is fast, since a key may have a hundred thousand events."""
     found = LINE.fullmatch(line)
     time = TIME.fullmatch(found[6] or "") if found is not None else None
     if found is None or time is None:
-        return read_history(line)[0]._replace(index=index, line=number)
+        return read_history(line, own=names)[0]._replace(index=index, line=number)
     kind, process, name, key, part, _ = found.groups()
     return Event(index, kind, int(process), name, int(key), part_of_text(part), number, line, {"time": int(time[1])})
 

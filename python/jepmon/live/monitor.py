@@ -30,7 +30,7 @@ import datetime
 import os
 import pathlib
 import time
-from typing import AbstractSet, Counter, Dict, Hashable, Optional, TextIO, Union
+from typing import AbstractSet, Any, Counter, Dict, Hashable, Optional, TextIO, Union
 
 from ..history.kinds import ABSENT, BUDGET, model_of
 from ..program import Options
@@ -40,6 +40,7 @@ from .live_test import LiveTest
 from .numbered import Numbers
 from .operation import Operation
 from .outcome_rules import Exceptions, endings
+from .own import objects_of, part_text
 from .record import Record
 from .room import room_of
 from .run_folder import RunFolder, new_folder
@@ -77,6 +78,7 @@ class Monitor(LiveTest):
     log          gets each recorded line, with its :time in nanoseconds since the monitor began, and the notes. `jepmon script` with
                  the same options judges it again. Open a file by lines, with open(path, "w", buffering=1): then it is complete
                  even if the test is killed
+    objects      a file with objects of your own, by their rules; `model` and set_model may name them, and `call` makes their operations
     timeout      the seconds that a reply may take (it takes microseconds); then jepmon is killed, and the operation gets Refused
     """
 
@@ -95,10 +97,11 @@ class Monitor(LiveTest):
         initial: Optional[int] = None,
         absent: object = NONE,
         by_ends: bool = False,
+        objects: Union[str, os.PathLike[str], None] = None,
     ) -> None:
         test_unknown(unknown)
         ends, of_missing = endings(expected, failed), missing(initial, absent)
-        options = Options(concurrency, model_of(model), budget, by_ends=by_ends)
+        options = Options(concurrency, model_of(model), budget, by_ends=by_ends, objects=objects_of(objects))
         begun, clock = datetime.datetime.now().astimezone(), time.monotonic_ns()
         exchange = Exchange(options, timeout, program)
         try:
@@ -140,6 +143,16 @@ class Monitor(LiveTest):
 
     def release(self, key: int = 0) -> Operation:
         return Operation(self._telling, "release", key)
+
+    def call(self, key: int, name: str, *arguments: Any) -> Operation:
+        """An operation of an object of a file, by its name and arguments: integers, True and False. If it has an answer, set op.value to it:
+        an integer, True, False, or None for nil. An unsuccessful attempt that the rules do not judge: op.fail()."""
+        own = self._telling.own(key_of(key))
+        if own is None:
+            raise ValueError(f"key {key} is not an object of a file: name the file by Monitor(objects=..), and the object by model or set_model")
+        operation = Operation(self._telling, name, key, part_text(own, name, arguments))
+        operation.__dict__.update(_is_answered=own.rules.operations[name].answers)
+        return operation
 
     def _brought(self, key: int, value: Optional[int]) -> str:
         """The text of a value that an operation writes."""

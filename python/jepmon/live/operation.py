@@ -5,7 +5,9 @@ from types import TracebackType
 from typing import Any, Optional, Protocol, Type
 
 from ..history.kinds import ANSWERED
+from ..rules import Object
 from .outcome_rules import Endings, outcome_of
+from .own import answer_text
 from .values import Missing, Value, integer, key_of, members, told
 from .verdicts import NotLegal
 
@@ -28,26 +30,34 @@ class Teller(Protocol):
     def is_register(self, key: int) -> bool:
         """Returns whether the key is a register, whose reads answer integers."""
 
+    def own(self, key: int) -> Optional[Object]:
+        """Returns the object of a file that the key is, if it is one."""
+
 
 class Block:
     """The block of an operation, as a client uses it. The client may set `value` of a read or a dequeue until the block ends. Setting
     anything else raises an AttributeError at once. If the client has caught this error, the end of the block raises it again. The operation
     is then an :info, since nobody knows what the client meant. The package itself writes into __dict__."""
 
-    value: Value = UNSET  # the answer of a read or a dequeue
+    value: Value = UNSET  # the answer of a read, a dequeue or another operation that has an answer
     _name: str
+    _is_answered = False  # whether it is an operation of an object of a file that answers
     _outcome: Optional[str] = None
     _told = False
     _said: Optional[str] = None
     _misused: Optional[AttributeError] = None
 
     def __setattr__(self, name: str, value: object) -> None:
-        if name == "value" and self._name in ANSWERED and self._outcome is None:
+        if name == "value" and self._has_value and self._outcome is None:
             self.__dict__.update(value=value)
         else:
             misused = AttributeError(self._why_not(name))
             self.__dict__.update(_misused=misused)
             raise misused
+
+    @property
+    def _has_value(self) -> bool:
+        return self._name in ANSWERED or self._is_answered
 
     def _take(self, other: Block) -> None:
         """Copies the settings of another operation."""
@@ -55,7 +65,7 @@ class Block:
 
     def _why_not(self, name: str) -> str:
         if name == "value":
-            return (f"{self._name} has no op.value: {CALLS}" if self._name not in ANSWERED else
+            return (f"{self._name} has no op.value: {CALLS}" if not self._has_value else
                     f"the block of this {self._name} has ended: set op.value in it")
         if name == "outcome":
             return f"op.outcome says how the block ended: {CALLS}"
@@ -158,10 +168,12 @@ class Operation(Block):
 
     def _answer(self) -> str:
         """Returns the operand of the :ok: an answer, or the operand of the invocation."""
-        if self._name not in ANSWERED:
+        if not self._has_value:
             return self._part
         if self.value is UNSET:
             raise ValueError(f"the block of a {self._name} has to set op.value")
+        if self._telling.own(self._key) is not None:
+            return answer_text(self.value)
         if self._name == "dequeue" or self._telling.is_register(self._key):
             return integer(told(self.value))
         return members(self.value)

@@ -29,6 +29,15 @@ class Processes:
         self._free.remove(thread)
         return thread
 
+    def test_own(self) -> None:
+        """Tests that the next operation of this thread of Python is by a client of its own, whose number no other client has."""
+        number = self._homes.setdefault(threading.get_ident(), len(self._homes))
+        if number >= self.concurrency:
+            raise ValueError(f"more than {self.concurrency} clients, and operations that ask for their client need a thread of jepmon for each: raise "
+                             "concurrency, 64 at most")
+        if number not in self._free:
+            raise ValueError("this client has another operation open, and an operation that asks for its client must be its only one")
+
     def process(self, thread: int) -> int:
         return self._current[thread]
 

@@ -7,6 +7,7 @@
                              names.txt     the meaning of the numbers of Monitor.number, if there are any
                              cause.txt     why it is illegal or unknown, in words
                              page.html     the same as a picture
+                             objects.edn   a copy of the file of objects, if the test has one
                              run.html      rates, latencies and faults over time, and all keys (docs/guide/PAGE.md); made at the end
     runs/latest                            a link to the newest folder
 
@@ -26,6 +27,7 @@ import sys
 from typing import Iterator, Optional, Union
 
 from ..program import Options
+from ..rules.file import COPY
 
 HISTORY, AGAIN, VERDICT, COUNTS, NAMES = "history.edn", "judge-again", "verdict.txt", "counts.txt", "names.txt"
 CAUSE, PAGE, LATEST = "cause.txt", "page.html", "latest"
@@ -59,6 +61,8 @@ class RunFolder:
             self._history = on_fault.enter_context(open(self.path / HISTORY, "xb", buffering=0))
             self._append(f"; the events of a live test, from {self.begun.isoformat()} on; :time is in nanoseconds from then")
             write_whole(self.path / AGAIN, self._script(), executable=True)
+            if options.objects is not None:
+                write_whole(self.path / COPY, options.objects.text.decode())
             on_fault.pop_all()
 
     # --- The history ---
@@ -99,7 +103,9 @@ class RunFolder:
     @property
     def again(self) -> str:
         """The words after `jepmon` that judge the history in this folder again."""
-        words = " ".join(self.options.words(self.program))
+        objects = self.options.objects
+        options = self.options if objects is None else self.options._replace(objects=objects.beside())
+        words = " ".join(options.words(self.program))
         return f"script {words} < {HISTORY}" if self.is_script else f"check {HISTORY} {words}"
 
     def _script(self) -> str:

@@ -9,6 +9,7 @@ from ..history.kinds import REGISTERS, model_of
 from ..history.line import event_line
 from ..program import Options
 from ..program.report import verdict_in
+from ..rules import Object
 from .conclusion import Conclusion, leave_cause, leave_page, leave_verdict
 from .equal_values import PATIENCE, ByEnds, command_of, is_further, replies_by
 from .exchange import Exchange
@@ -79,6 +80,9 @@ class Telling:
                 self._begin(key, str(self.missing.initial))
             if key in self.dropped:
                 return None
+            own = self.own(key)
+            if own is not None and name in own.rules.askers:
+                self._processes.test_own()
             thread = self._processes.take()
             self.told.begin(key, name)
             self._invoke(thread, name, key, part)
@@ -96,6 +100,11 @@ class Telling:
 
     def is_register(self, key: int) -> bool:
         return self.model_of(key) in REGISTERS
+
+    def own(self, key: int) -> Optional[Object]:
+        """Returns the object of a file that the key is, if it is one."""
+        objects = self._options.objects
+        return None if objects is None else objects.get(self.model_of(key))
 
     def model_of(self, key: int) -> str:
         return self._models.get(key, self._options.model)
@@ -349,6 +358,8 @@ class Telling:
             leave_page(self._record.folder)
 
     def _hint_of_illegal(self, key: int, index: int, line: str) -> str:
+        if self.own(key) is not None:  # whose operations mean what its rules say
+            return ""
         model, names = self.model_of(key), self.told.names(key)
         other = hint_of_model(key, model, names, lambda other: self._exchange.is_legal_as(key, index, other))
         return "\n".join(hint for hint in (self.told.sources.hint(line), other) if hint)

@@ -22,10 +22,10 @@ class Handle(Operations):
         self._current: List[LongObject] = []
         self._replaced: List[LongObject] = []  # replaced objects that are still read
 
-    def _operation(self, name: str, part: str = "nil") -> LongOperation:
+    def _operation(self, name: str, part: str = "nil", is_answered: bool = False) -> LongOperation:
         from .operation import LongOperation
 
-        return LongOperation(self._parts, self, name, part)
+        return LongOperation(self._parts, self, name, part, is_answered)
 
     def release(self) -> LongOperation:
         """Refuses the release: a handle does not know which of its locks is meant."""
@@ -41,7 +41,7 @@ class Handle(Operations):
     def choose(self, name: str) -> LongObject:
         """The object of the next operation."""
         self._replace()
-        if self._replaced and (name == "dequeue" or name == "read" and self._parts.draws.random() < 0.5):
+        if self._replaced and (name == "dequeue" or self._reads(name) and self._parts.draws.random() < 0.5):
             one = self._drawn(self._replaced)
             if one is not None:
                 return one

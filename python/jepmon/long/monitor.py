@@ -32,9 +32,11 @@ from typing import Callable, Counter, Dict, Optional, Union
 from ..history.kinds import BUDGET, KEYS, MODELS, model_of
 from ..live.live_test import LiveTest
 from ..live.outcome_rules import Exceptions, endings
+from ..live.own import objects_of
 from ..live.sender import test_unknown
 from ..live.values import NONE, missing
 from ..live.verdicts import Unknown
+from ..rules import Object, Objects
 from .folder import LongFolder
 from .handle import Handle
 from .limits import changes_of, limits
@@ -84,6 +86,7 @@ class LongMonitor(LiveTest):
         initial: Optional[int] = None,
         absent: object = NONE,
         by_ends: bool = False,
+        objects: Union[str, "os.PathLike[str]", None] = None,
     ) -> None:
         test_unknown(unknown)
         if keep is not None and keep < 0:
@@ -92,7 +95,10 @@ class LongMonitor(LiveTest):
         names = f"{uuid.uuid4().hex[:12]}-" if names is None else names
         model = model_of(model)
         settings = Settings(program, model, budget, timeout, endings(expected, failed), begun, clock, names, {}, missing(initial, absent),
-                            set(), by_ends)
+                            set(), by_ends, objects_of(objects))
+        test_clients(settings.objects)
+        self.own: Optional[Object] = None if settings.objects is None else settings.objects.get(model)  # of the file
+        self._models = (*MODELS, *(settings.objects or ()))
         folder = LongFolder(out, begun, keep, page) if out is not None else None
         self._model, self._folder, self._unknown = model, folder, unknown
         self._judge = self._parts = Parts(settings, limits(events, keys, concurrency), folder, forget)
@@ -101,8 +107,8 @@ class LongMonitor(LiveTest):
         """Gives a new object, as a handle. Its operations are blocks, like those of Monitor. A lock is released by op.object.release(), and op
         is its acquire. After `changes` changes the object is replaced; use it for sets, since each read gives the whole set."""
         model = self._model if model is None else model_of(model)
-        if model not in MODELS:
-            raise ValueError(f"a model is one of {', '.join(MODELS)}, not {model!r}")
+        if model not in self._models:
+            raise ValueError(f"a model is one of {', '.join(self._models)}, not {model!r}")
         return Handle(self._parts, model, changes_of(changes))
 
     # --- Results ---
@@ -172,3 +178,10 @@ class LongMonitor(LiveTest):
         if self._unknown == "raise" and verdict != "legal":
             legal, _, not_judged = verdict.partition("\n")
             raise Unknown(f"{NOT_ALL}\n{not_judged}" if legal == "legal" else verdict, folder=str(self.folder or ""))
+
+
+def test_clients(objects: Optional[Objects]) -> None:
+    """Tests that no object of the file asks for its clients, which share the threads of several programs here."""
+    asking = [each.name for each in (objects or {}).values() if each.rules.askers]
+    if asking:
+        raise ValueError(f"operations of {asking[0]} ask for their client, which a Monitor has, and a LongMonitor has not")

@@ -1,9 +1,10 @@
 """An object of a test without an end: one key of one program, under a name that the store has not seen."""
 from __future__ import annotations
 
-from typing import TYPE_CHECKING, Optional
+from typing import TYPE_CHECKING, Any, Optional
 
 from ..history.kinds import QUEUES
+from ..live.own import part_text
 from ..live.room import BY_ENDS, Room, room_of
 from ..live.values import integer, told
 
@@ -21,9 +22,22 @@ class Operations:
     """The operations of an object, each a block. The subclass decides which object it is."""
 
     _parts: Parts
+    model: str
 
-    def _operation(self, name: str, part: str = "nil") -> LongOperation:
+    def _operation(self, name: str, part: str = "nil", is_answered: bool = False) -> LongOperation:
         raise NotImplementedError
+
+    def call(self, name: str, *arguments: Any) -> LongOperation:
+        """An operation of an object of a file, as Monitor.call."""
+        own = self._parts.own(self.model)
+        if own is None:
+            raise ValueError(f"{self.model} is not an object of a file: name the file by LongMonitor(objects=..)")
+        return self._operation(name, part_text(own, name, arguments), own.rules.operations[name].answers)
+
+    def _reads(self, name: str) -> bool:
+        """Returns whether operations of this name only read."""
+        own = self._parts.own(self.model)
+        return name == "read" if own is None else own.rules.reads(name)
 
     def _part(self, value: Optional[int]) -> str:
         return integer(told(self._parts.missing.seen(value)))
@@ -71,10 +85,10 @@ class LongObject(Operations):
         """Releases a lock that was acquired on this object."""
         return self._operation("release")
 
-    def _operation(self, name: str, part: str = "nil") -> LongOperation:
+    def _operation(self, name: str, part: str = "nil", is_answered: bool = False) -> LongOperation:
         from .operation import LongOperation
 
-        return LongOperation(self._parts, self, name, part)
+        return LongOperation(self._parts, self, name, part, is_answered)
 
     # --- The caller has the lock of the test ---
 
@@ -115,9 +129,9 @@ class LongObject(Operations):
 
     def ended(self, name: str, outcome: Optional[str], is_answered: bool) -> None:
         """Records the end of an operation. A dequeue that failed with an answer has found the queue empty."""
-        self._changes += name in CHANGES
+        self._changes += name in CHANGES if self._parts.own(self.model) is None else not self._reads(name)
         self._held += ((name, outcome) == ("acquire", "ok")) - (name == "release" and outcome != "fail")
         if outcome == "info" and name != "read":
             self.timeouts += 1
-        if is_answered and (name, outcome) in (("read", "ok"), ("dequeue", "fail")) and self.is_replaced:  # a queue is read until it is empty
+        if is_answered and (outcome == "ok" and self._reads(name) or (name, outcome) == ("dequeue", "fail")) and self.is_replaced:  # a queue is read until it is empty
             self._answers += 1

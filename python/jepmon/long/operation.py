@@ -7,6 +7,7 @@ from typing import TYPE_CHECKING, Optional, Type, Union
 from ..history.kinds import REGISTERS
 from ..live.operation import Block, Operation
 from ..live.verdicts import NotLegal
+from ..rules import Object
 
 if TYPE_CHECKING:
     from .handle import Handle
@@ -24,8 +25,8 @@ class LongOperation(Block):
     _object: Optional[LongObject] = None
     _inner: Optional[Operation] = None
 
-    def __init__(self, parts: Parts, chooser: Union[Handle, LongObject], name: str, part: str) -> None:
-        self.__dict__.update(_parts=parts, _chooser=chooser, _name=name, _part=part)
+    def __init__(self, parts: Parts, chooser: Union[Handle, LongObject], name: str, part: str, is_answered: bool = False) -> None:
+        self.__dict__.update(_parts=parts, _chooser=chooser, _name=name, _part=part, _is_answered=is_answered)
 
     @property
     def object(self) -> LongObject:
@@ -44,6 +45,7 @@ class LongOperation(Block):
             raise ValueError(f"this {self._name} has had its block already: make one for each block")
         one, telling = self._parts.begin(self._chooser, self._name)
         inner = Operation(telling or Nobody(self._parts, one.model), self._name, one.key, self._part)
+        inner.__dict__.update(_is_answered=self._is_answered)
         self.__dict__.update(_object=one, _inner=inner)
         try:
             inner.__enter__()
@@ -83,7 +85,7 @@ class Nobody:
     """Replaces a program that was closed: it records nothing, and operations end as usual."""
 
     def __init__(self, parts: Parts, model: str) -> None:
-        self.endings, self.missing, self._model = parts.endings, parts.missing, model
+        self.endings, self.missing, self._model, self._own = parts.endings, parts.missing, model, parts.own(model)
 
     def invoke(self, name: str, key: int, part: str) -> Optional[int]:
         return None
@@ -93,3 +95,6 @@ class Nobody:
 
     def is_register(self, key: int) -> bool:
         return self._model in REGISTERS
+
+    def own(self, key: int) -> Optional[Object]:
+        return self._own

@@ -24,7 +24,7 @@ class Part:
 
     def __init__(self, number: int, settings: Settings, limits: Limits, folders: Optional[LongFolder]) -> None:
         self.number, self.limits, self.model = number, limits, settings.model
-        options = Options(limits.threads, settings.model, settings.budget, by_ends=settings.by_ends)
+        options = Options(limits.threads, settings.model, settings.budget, by_ends=settings.by_ends, objects=settings.objects)
         exchange = Exchange(options, settings.timeout, settings.program)
         try:
             self.folder = folders.part(self.name, options, exchange.program) if folders is not None else None

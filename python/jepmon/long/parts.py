@@ -14,6 +14,7 @@ from ..live.owner import OwnedLock
 from ..live.sender import Telling
 from ..live.values import Missing
 from ..live.verdicts import NotLegal, Refused
+from ..rules import Object
 from .folder import LongFolder
 from .handle import Handle
 from .limits import Limits
@@ -52,6 +53,10 @@ class Parts:
     @property
     def missing(self) -> Missing:
         return self._settings.missing
+
+    def own(self, model: str) -> Optional[Object]:
+        """Returns the object of a file that this model is, if it is one."""
+        return None if self._settings.objects is None else self._settings.objects.get(model)
 
     def settle(self, number: int) -> None:
         """Makes the operations of this thread those of the client with this number, if it is free."""

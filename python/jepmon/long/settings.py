@@ -3,10 +3,11 @@ from __future__ import annotations
 
 import datetime
 import os
-from typing import Dict, NamedTuple, Set, Union
+from typing import Dict, NamedTuple, Optional, Set, Union
 
 from ..live.outcome_rules import Endings
 from ..live.values import Missing
+from ..rules import Objects
 
 
 class Settings(NamedTuple):
@@ -24,3 +25,4 @@ class Settings(NamedTuple):
     missing: Missing
     has_said: Set[str]  # the notes that were already printed
     by_ends: bool = False
+    objects: Optional[Objects] = None  # the objects of a file

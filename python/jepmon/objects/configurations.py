@@ -5,7 +5,7 @@ its answer, and the timed-out operations that have taken place (except reads, wh
 docs/guide/BUDGETS.md. If no end remains, the key is dead. If there are more ends than the budget at an ok, the key is over. The proved
 program says both, and this walk must say the same: the walk shows what the program only counts. For wide kinds the program counts something
 else, so `follow` gives up there. Tests compare the walk with the program, and it is not proved. If the walk would take too long it gives
-up, and then none of its results may be shown.
+up, and then none of its results may be shown. A walk may also be through the events of an object of a file (jepmon.rules).
 
     walked = walk(of_key(events, 7), "register", 4096)
     walked.status            # "alive", "dead", "over", or "gave up"
@@ -22,9 +22,11 @@ import dataclasses
 from typing import Any, Callable, Dict, FrozenSet, Iterable, List, Mapping, NamedTuple, Optional, Set, Tuple
 
 from ..history import Event
-from ..history.kinds import BUDGETS, REGISTERS
+from ..history.kinds import BUDGETS
 from ..program import Options
-from . import START, Found, Outcome, Part, Rule, State, rule
+from ..rules import Object as OwnObject
+from . import Found, Outcome, Part, Rule, State
+from .sequential import sequential
 
 WORK = 4_000_000  # outcomes that a walk tries at most before it gives up: some seconds
 MEMBERS = 32  # of a state, as a set or a queue, that cost as much as one outcome
@@ -79,7 +81,7 @@ class Live(NamedTuple):
     name: str
     part: Part
     seat: int  # its bit
-    answers: bool  # what it finds tells ends apart: it is an open read or dequeue
+    answers: bool  # whether its finding distinguishes ends: it is an open read or dequeue, or an open operation of an object of a file
     rule: Rule
 
 
@@ -87,20 +89,21 @@ class Walker:
     """The walk, event by event. If an event makes the key dead, the walk keeps the ends just before it and stops. A probe is an invocation
     that counts as an operation that changes nothing and finds the state. The walk gives up when it has tried too much."""
 
-    def __init__(self, model: str, budget: int, work: int = WORK) -> None:
-        self.model, self.budget, self.work = model, budget, work
+    def __init__(self, model: str, budget: int, work: int = WORK, own: Optional[OwnObject] = None) -> None:
+        self.model, self.budget, self.work, self.own = model, budget, work, own
+        self._object = sequential(model, own)
         self._probe: Optional[int] = None
         self.dead = False
         self.live: Dict[int, Live] = {}
         self._open: Dict[int, int] = {}  # the operation that a process has open
-        self._ends: Dict[Place, Link] = {(START[model], 0, NOTHING): None}
+        self._ends: Dict[Place, Link] = {(self._object.start, 0, NOTHING): None}
         self._fresh: List[Live] = []  # invoked since the ends were last complete
         self._seats: List[int] = []  # that are free again
         self._seated = 0
 
     def copy(self, budget: int, work: int = WORK, probe: Optional[int] = None) -> Walker:
         """A copy of this walker, at the same event."""
-        other = Walker(self.model, budget, work)
+        other = Walker(self.model, budget, work, self.own)
         other.dead, other.live, other._open, other._ends = self.dead, dict(self.live), dict(self._open), dict(self._ends)
         other._fresh, other._seats, other._seated, other._probe = list(self._fresh), list(self._seats), self._seated, probe
         return other
@@ -120,7 +123,7 @@ class Walker:
             return count
         del self._open[event.process]
         self._ends = after
-        if event.kind == "info" and event.name != "read":
+        if event.kind == "info" and self._object.counts_after_crash(event.name):
             self._put(operation._replace(answers=False))
         else:
             self._leave(operation)
@@ -154,7 +157,7 @@ class Walker:
             return self.after_ok(operation, event.value)
         if event.kind == "fail":
             return {place: link for place, link in self._ends.items() if not place[1] & operation.seat}
-        if event.name == "read":
+        if not self._object.counts_after_crash(event.name):
             return self._without(operation, self._ends)
         if operation.answers:
             return {(state, seats, _without_seat(finds, operation.seat)): link
@@ -179,10 +182,18 @@ class Walker:
         seat = operation.seat
         if not operation.answers:
             return {(state, seats ^ seat, finds): link for (state, seats, finds), link in self._ends.items() if seats & seat}
-        if answer is None and self.model in REGISTERS:
+        if self._object.fits_all(answer):
             return self._without(operation, {place: link for place, link in self._ends.items() if place[1] & seat})
-        found = frozenset(((seat, answer),))
-        return {(state, seats ^ seat, finds - found): link for (state, seats, finds), link in self._ends.items() if finds >= found}
+        if self._object.is_exact:
+            exactly = frozenset(((seat, answer),))
+            return {(state, seats ^ seat, finds - exactly): link for (state, seats, finds), link in self._ends.items() if finds >= exactly}
+        fitting = {find for _, _, finds in self._ends for find in finds if find[0] == seat and self._object.fits(find[1], answer)}
+        left: Dict[Place, Link] = {}
+        for (state, seats, finds), link in self._ends.items():
+            found = finds & fitting
+            if found:
+                left.setdefault((state, seats ^ seat, finds - found), link)
+        return left
 
     def ends(self) -> List[End]:
         """All ends that there are now."""
@@ -197,7 +208,7 @@ class Walker:
 
     def _invoke(self, event: Event) -> None:
         seat = self._seats.pop() if self._seats else self._new_seat()
-        live = Live(event.index, event.name, event.value, seat, event.name in ("read", "dequeue"), rule(self.model, event.name))
+        live = Live(event.index, event.name, self._object.part(event), seat, self._object.answers(event.name), self._object.rule(event.name))
         if event.index == self._probe:
             live = live._replace(answers=True, rule=_probing)
         self._put(live)
@@ -274,6 +285,11 @@ class Walk:
     tried: int  # outcomes
 
     @property
+    def own(self) -> Optional[OwnObject]:
+        """The object of a file through whose events it is, if it is one."""
+        return self.walker.own
+
+    @property
     def index(self) -> Optional[int]:
         """The index of the event at which it is dead or over."""
         return self.steps[-1].event.index if self.status in ("dead", "over") else None
@@ -302,10 +318,10 @@ class Walk:
             return None
 
 
-def walk(events: Iterable[Event], model: str, budget: int, work: int = WORK) -> Walk:
+def walk(events: Iterable[Event], model: str, budget: int, work: int = WORK, own: Optional[OwnObject] = None) -> Walk:
     """Walks through the events of one key, up to the event at which the key is dead or over, or to the end. Gives up after this much
-    work."""
-    walker = Walker(model, budget, work)
+    work. `own` is the object of a file that the key is, if it is one."""
+    walker = Walker(model, budget, work, own)
     steps: List[Step] = []
     stops = [Stop(0, walker.copy(UNBOUNDED))]
     for event in events:
@@ -325,7 +341,7 @@ def walk(events: Iterable[Event], model: str, budget: int, work: int = WORK) -> 
 def follow(events: Iterable[Event], options: Options, program: Optional[str] = None, work: int = WORK) -> Walk:
     """A walk through the events of a key that the program has judged with these options. If there are more ends than the budget, and the
     program has counted something else (for a wide kind), the status is "gave up"."""
-    walked = walk(events, options.model, options.budget, work)
+    walked = walk(events, options.model, options.budget, work, options.own)
     return dataclasses.replace(walked, status="gave up") if walked.status == "over" and options.is_wide(program) else walked
 
 

@@ -37,7 +37,7 @@ class Drawn(NamedTuple):
 def bars(given: PageInput, width: int = WIDTH, lines: int = LINES, plain: bool = False) -> str:
     """The bars of the smallest illegal part, if there is one and it fits. Otherwise the bars of the last events up to the fatal one.
     `plain`: in ASCII."""
-    labels = Labels(given.names)
+    labels = Labels(given.names, given.own)
     fatal = fatal_of(given.verdict)
     drawn = fitting(given, fatal, labels, width)
     if drawn is None:

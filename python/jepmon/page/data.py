@@ -6,7 +6,6 @@ import json
 from typing import Any, Dict, List, Mapping, NamedTuple, Optional, Sequence, Tuple
 
 from ..history import Event, Operation
-from ..history.kinds import OPERATIONS
 from ..history.line import event_line, part_text
 from .choice import Choice
 from .given import PageInput, Walked
@@ -21,7 +20,6 @@ LEAST_TEXT = 300  # characters that each text may have in any case
 STEPS = 40_000  # the most steps of the orders of all ends together
 OUTCOMES = ("ok", "fail", "info", "open")
 READ, CHANGE = 0, 1  # kinds of operations
-CHANGES = OPERATIONS - {"read"}
 
 
 class Page(NamedTuple):
@@ -63,7 +61,7 @@ def data(page: Page) -> Dict[str, Any]:
         "over": given.verdict.startswith("unknown"),
         "budget": given.budget,
         "key": given.key,
-        "holds": "could be" if given.model == "mutex" else "could hold",
+        "holds": "could be" if given.model == "mutex" or given.own is not None else "could hold",
         "fields": names,
         "events": [event_row(event, names, max(LEAST_TEXT, min(TEXT, TEXTS // len(events)))) for event in events],
         "operations": [operation_row(each, numbers, page.labels) for each in operations],
@@ -117,7 +115,7 @@ def operation_row(operation: Operation, numbers: Mapping[int, int], labels: Labe
     part only if it differs), and the meaning of its numbers. Empty fields at the end are left out."""
     asked, ended = operation.invocation, operation.completion
     parts = [part_text(asked.value), part_text(ended.value) if ended is not None and ended.value != asked.value else ""]
-    row = [asked.process, operation.thread, asked.name, CHANGE if asked.name in CHANGES else READ,
+    row = [asked.process, operation.thread, asked.name, CHANGE if labels.changes(operation) else READ,
            cut(labels.operation(operation), LABEL), numbers[asked.index], -1 if ended is None else numbers[ended.index],
            OUTCOMES.index(operation.outcome), *(part if len(part) <= LEAST_TEXT else "" for part in parts),
            labels.stands_for(asked, ended)]

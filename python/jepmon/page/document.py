@@ -65,11 +65,11 @@ def page_of(given: PageInput) -> Page:
     """The subject of the page."""
     fatal = fatal_of(given.verdict)
     smallest = smallest_of(given)
-    part_walked = walked(walk.walk(smallest, given.model, walk.GREATEST, PART_WORK), given.names) if smallest else None
+    part_walked = walked(walk.walk(smallest, given.model, walk.GREATEST, PART_WORK, given.own), given.names) if smallest else None
     if part_walked is not None and (part_walked.ended, part_walked.at) != ("dead", fatal):
         part_walked = None
     choice = choose(given.events, given.concurrency, fatal, {event.index for event in smallest})
-    return Page(given, choice, operations(smallest, given.concurrency), Labels(given.names), fatal,
+    return Page(given, choice, operations(smallest, given.concurrency), Labels(given.names, given.own), fatal,
                 given.walked if agreement(given)[0] else None, part_walked)
 
 
@@ -109,11 +109,11 @@ def switch(page: Page) -> str:
 def legend(page: Page) -> str:
     """The meaning of the bars that occur on the page."""
     every = page.choice.operations
-    reads = any(each.invocation.name == "read" for each in every)
+    changing = [page.labels.changes(each) for each in every]
     shown: List[Tuple[str, str, str]] = []
-    if reads:
+    if not all(changing):
         shown.append(("read", "", "read"))
-    if any(each.invocation.name != "read" for each in every):
+    if any(changing):
         shown.append(("change", "", "changes the object"))
     of_outcomes = {each.outcome for each in every}
     shown += [(f"change {outcome}", MARKS[outcome], LEGEND[outcome]) for outcome in OUTCOMES

@@ -37,7 +37,7 @@ def ends_table(page: Page, walked: Walked) -> str:
 <p class="quiet">An outcome is what one possible order of the operations leaves. Choose one: such an order is drawn on the bars, \
 as numbered dots.</p>
 <div class="scrolled" tabindex="0" role="region" aria-labelledby="ends-title"><table>
-<thead><tr><th scope="col">order</th><th scope="col">{HOLDS.get(page.given.model, "holds")}</th>{head}</tr></thead>
+<thead><tr><th scope="col">order</th><th scope="col">{"state" if page.given.own is not None else HOLDS.get(page.given.model, "holds")}</th>{head}</tr></thead>
 <tbody>
 {rows}</tbody></table></div>
 {"".join(f'<p class="quiet">{note}</p>' for note in notes)}</section>"""

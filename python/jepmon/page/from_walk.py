@@ -1,11 +1,12 @@
 """Converts a walk through a key's events (jepmon.objects.configurations) into the words of a page."""
 from __future__ import annotations
 
-from typing import Dict, Iterable, List, Mapping, Sequence, Tuple
+from typing import Any, Dict, Iterable, List, Mapping, Optional, Sequence, Tuple
 
 from ..history import Event
 from ..objects import Found, State
 from ..objects import configurations as walk
+from ..rules import Found as OwnFound, answers_words
 from .given import End, Walked
 from .labels import Labels
 
@@ -17,7 +18,7 @@ WORK = walk.WORK  # outcomes that a second walk may try, for the values that the
 
 def walked(given: walk.Walk, names: Mapping[int, str]) -> Walked:
     """The result of the walk, in words."""
-    labels = Labels(names)
+    labels = Labels(names, given.own)
     at = given.steps[-1].event.index if given.steps else None
     try:
         found = given.ends() if given.status == "dead" else []
@@ -34,10 +35,17 @@ def sort_key(state: State) -> Tuple[bool, Sequence[int]]:
     """An order of states of one model."""
     if state is None:
         return False, ()
-    return True, (state,) if isinstance(state, int) else sorted(state) if isinstance(state, frozenset) else state
+    return True, (state,) if isinstance(state, int) else sorted(state) if isinstance(state, frozenset) else numbers(state)
+
+
+def numbers(state: Sequence[Optional[int]]) -> List[int]:
+    """Returns the values of a queue, or of the variables of an object of a file, in an order in which nil comes first."""
+    return [-1 << 64 if value is None else value for value in state]
 
 
 def state_words(model: str, state: State, labels: Labels) -> str:
+    if labels.own is not None and isinstance(state, tuple):
+        return labels.state(labels.own, state)
     if model == "mutex":
         return "held" if state else "free"
     if isinstance(state, tuple):
@@ -48,12 +56,16 @@ def state_words(model: str, state: State, labels: Labels) -> str:
 
 def found_words(taken: Mapping[int, Found], live: Mapping[int, walk.Live], labels: Labels) -> Dict[int, str]:
     """The answer of each operation that has taken place and has not returned. The answer is "" if the operation finds nothing."""
-    return {id: labels.value(found) if id in live and live[id].answers else "" for id, found in taken.items()}
+    return {id: finding(found, labels) if id in live and live[id].answers else "" for id, found in taken.items()}
+
+
+def finding(found: Any, labels: Labels) -> str:
+    return answers_words(found, labels.integer) if isinstance(found, OwnFound) else labels.value(found)
 
 
 def held(given: walk.Walk, labels: Labels) -> List[Tuple[int, str]]:
     """For each ok, the values that the object could hold just before it. Empty if this would take too long."""
-    walker = walk.Walker(given.model, 1 << 62, WORK)
+    walker = walk.Walker(given.model, 1 << 62, WORK, given.own)
     said: List[Tuple[int, str]] = []
     try:
         for event in of_steps(given):

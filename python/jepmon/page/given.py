@@ -6,6 +6,7 @@ from typing import List, Mapping, NamedTuple, Optional, Sequence, Tuple, Union
 from ..history import Event
 from ..history import fault_notes as notes
 from ..history.kinds import BUDGET
+from ..rules import Object
 
 
 class Fault(NamedTuple):
@@ -60,7 +61,8 @@ class PageInput(NamedTuple):
     """All that a page shows. `verdict` is jepmon's last line, and `report` its line of this key. `headline` and `sentences` say the cause.
     `smallest` has the events of the smallest illegal part, or their indices. `names` has the meaning of numbered values, and `key_name`
     that of the key's number. `again` is the command that judges the history again. `proviso` says which part is proved, if that differs
-    from most pages. `others` are the other keys that are not legal, and `back` is the place of the first one's page."""
+    from most pages. `others` are the other keys that are not legal, and `back` is the place of the first one's page. `own` is the object of a file that
+    the key is, if it is one."""
 
     verdict: str
     key: int
@@ -81,6 +83,7 @@ class PageInput(NamedTuple):
     proviso: str = ""
     others: Sequence[Other] = ()
     back: str = ""
+    own: Optional[Object] = None
 
 
 def smallest_of(given: PageInput) -> List[Event]:

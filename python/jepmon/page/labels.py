@@ -5,7 +5,8 @@ import heapq
 from typing import FrozenSet, Mapping, Optional, Tuple, Union
 
 from ..history import Event, Operation, Value
-from ..history.kinds import ABSENT, ANSWERED
+from ..history.kinds import ABSENT, ANSWERED, OPERATIONS
+from ..rules import Object, State, given_words, state_words
 
 ARROW = "\u2192"
 CUT = "\u2026"
@@ -35,10 +36,12 @@ def cut(text: str, most: int) -> str:
 
 
 class Labels:
-    """Values and operations in words. If some numbers stand for other values, `names` has these."""
+    """Values and operations in words. If some numbers stand for other values, `names` has these. `own` is the object of a file whose
+    operations they are, if it is one."""
 
-    def __init__(self, names: Mapping[int, str]) -> None:
+    def __init__(self, names: Mapping[int, str], own: Optional[Object] = None) -> None:
         self.names = names
+        self.own = own
 
     def value(self, value: Union[Value, Tuple[int, ...]]) -> str:
         if value is None:
@@ -63,10 +66,28 @@ class Labels:
     def operation(self, operation: Operation) -> str:
         """The operation with its value, or with its answer if it has one."""
         asked, ended = operation.invocation, operation.completion
+        if self.own is not None and asked.name not in OPERATIONS:
+            return self.own_operation(self.own, operation)
         if asked.name in ANSWERED:
             answered = ended is not None and ended.kind == "ok"
             return asked.name + (f" {ARROW} {self.value(ended.value)}" if ended is not None and answered else "")
         return asked.name + ("" if asked.value is None else " " + self.value(asked.value))
+
+    def own_operation(self, own: Object, operation: Operation) -> str:
+        """Returns an operation of an object of a file, with its part and its answer: `put [1 6] \u2192 0`."""
+        asked, ended = operation.invocation, operation.completion
+        rule = own.rules.operations.get(asked.name)
+        is_answered = ended is not None and ended.kind == "ok" and rule is not None and rule.answers
+        return given_words(asked.name, asked.value, self.integer) + (f" {ARROW} {self.value(ended.value)}" if ended is not None and is_answered else "")
+
+    def changes(self, operation: Operation) -> bool:
+        """Returns whether the operation may change the object."""
+        name = operation.invocation.name
+        return name != "read" if self.own is None else not self.own.rules.reads(name)
+
+    def state(self, own: Object, state: State) -> str:
+        """Returns the state of an object of a file."""
+        return state_words(own, state, self.integer)
 
     def stands_for(self, *events: Optional[Event]) -> str:
         """The numbers in these events that stand for other values: "3 stands for blue". Empty if there are none."""

@@ -7,9 +7,10 @@ from __future__ import annotations
 
 import os
 import subprocess
-from typing import List, NamedTuple, Optional, Tuple, Union
+from typing import FrozenSet, List, NamedTuple, Optional, Sequence, Tuple, Union
 
-from ..history.kinds import BUDGET, WIDE, kind_of, model_of
+from ..history.kinds import BUDGET, NO_NAMES, OPERATIONS, WIDE, OwnNames, kind_of, model_of
+from ..rules import Object, Objects
 from ..tools.errors import ProgramError
 from .equal_values import in_full, keys_by_ends
 from .finding import CURE, find_program, wide_kinds
@@ -30,6 +31,28 @@ class Options(NamedTuple):
     budget: int = BUDGET
     workers: Optional[int] = None
     by_ends: bool = False  # whether all keys are judged by all their ends, and none as a wide kind
+    objects: Optional[Objects] = None  # the objects of a file
+
+    @property
+    def own(self) -> Optional[Object]:
+        """The object of the file that has the model's name, if there is one."""
+        return None if self.objects is None else self.objects.get(self.model)
+
+    @property
+    def answering(self) -> FrozenSet[str]:
+        """The names of this object's operations, except the program's, whose oks have answers."""
+        operations = {} if self.own is None else self.own.rules.operations
+        return frozenset(name for name, operation in operations.items() if operation.answers and name not in OPERATIONS)
+
+    @property
+    def own_names(self) -> OwnNames:
+        """The names of operations that the file of objects declares."""
+        return NO_NAMES if self.objects is None else self.objects.names
+
+    @property
+    def names_clients(self) -> bool:
+        """Whether an operation of the model's object asks for its client, so that processes matter."""
+        return self.own is not None and bool(self.own.rules.askers)
 
     def kind(self, program: Optional[str] = None, model: Optional[str] = None) -> str:
         """Returns the kind by which this program judges `model` with these options. Without `model` it is the options' own model. A program
@@ -49,6 +72,7 @@ class Options(NamedTuple):
 
     def words(self, program: Optional[str] = None) -> List[str]:
         words = ["--concurrency", str(self.concurrency), "--model", self.kind(program), "--budget", str(self.budget)]
+        words += [] if self.objects is None else self.objects.words()
         return words if self.workers is None else words + ["--workers", str(self.workers)]
 
 
@@ -72,6 +96,12 @@ def check(history: History, options: Options = Options(), program: Optional[str]
     return in_full(options, asked)
 
 
+def test_objects(name: str, words: Sequence[str], error: bytes) -> None:
+    """Raises a ProgramError if the program is too old for a file of objects."""
+    if "--objects" in words and b"'--objects'" in error:
+        raise ProgramError(f"{name} takes no file of objects: a newer jepmon does")
+
+
 def run_check(words: List[str], raw: Optional[bytes] = None, program: Optional[str] = None, timeout: Optional[float] = None,
               stderr: Optional[int] = None) -> Tuple[str, str, int]:
     """Runs `jepmon check` with these words. Returns its standard output, its standard error if it is captured, and its status. The last
@@ -85,6 +115,7 @@ def run_check(words: List[str], raw: Optional[bytes] = None, program: Optional[s
     except OSError as fault:
         raise ProgramError(f"{name} can't be run: {fault.strerror}; {CURE}") from fault
     text = ran.stdout.decode("utf-8", "replace")
+    test_objects(name, words, ran.stderr or b"")
     word = text.splitlines()[-1].split(" ")[0] if text else "refused"
     if STATUSES.get(word) != ran.returncode:
         last = f"its last line was {text.splitlines()[-1][:200]!r}" if text else "it printed nothing"

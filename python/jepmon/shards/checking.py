@@ -12,6 +12,7 @@ from ..history.kinds import BUDGETS
 from ..program import Options, Report, find_program, report_of
 from ..program.report import key_line, report_on
 from .doubt import ShardsError
+from .events import use
 from .progress import Progress
 from .session import Refused, Session, Tools
 from .sizes import Sizes
@@ -52,12 +53,22 @@ def opened(history: History, options: Options, jobs: Optional[int] = None, *, pr
            temporary: Optional[str] = None, progress: Optional[Progress] = None, sizes: Sizes = Sizes(),
            finds_threads: bool = False) -> Iterator[Session]:
     """The session of a check. At its end its temporary files and processes are gone. Raises Refused if the check ends with a refusal."""
-    with temporary_folder(temporary) as folder, Team(jobs_of(jobs)) as team:
+    with temporary_folder(temporary) as folder, names_of(options), Team(jobs_of(jobs), options.own_names) as team:
         tools = Tools(find_program(program), folder, team, sizes, progress or Progress())
         try:
             yield Session(file_from(history, folder), options, tools, finds_threads)
         except ReadFailed:
             raise Refused("refused 20 ReadFailed") from None
+
+
+@contextlib.contextmanager
+def names_of(options: Options) -> Iterator[None]:
+    """Lets events have the names of the file of objects, until the end of the block."""
+    before = use(options.own_names)
+    try:
+        yield
+    finally:
+        use(before)
 
 
 def refusal_of(options: Options) -> Optional[str]:

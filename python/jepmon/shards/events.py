@@ -13,7 +13,9 @@ from .reading import Element
 
 KEYS = range(1 << 63)  # the keys of a history that is judged in shards
 KINDS = tuple(kind.encode() for kind in kinds.EVENT_TYPES)
-NAMES = tuple(sorted(name.encode() for name in kinds.OPERATIONS))
+BUILT_IN = tuple(sorted(name.encode() for name in kinds.OPERATIONS))
+NAMES = BUILT_IN  # that events may have in this process; see `use`
+OWN: Dict[bytes, bool] = {}  # those of a file of objects, and whether each asks for its client
 WITHOUT_PART = tuple(name.encode() for name in kinds.WITHOUT_PART)
 NAMES_OF_REFUSALS = {1: "Busy", 2: "WrongProcess", 3: "NotOpen", 4: "Mismatch", 5: "BadValue", 6: "BadIndex"}
 FAULT = b"{:type :info, :process :nemesis, :f :heal, :value nil}"  # represents any event of the nemesis
@@ -21,9 +23,18 @@ FAULT = b"{:type :info, :process :nemesis, :f :heal, :value nil}"  # represents 
 INT = rb"0|[1-9][0-9]{0,17}"
 SIGNED = rb"[+-]?(?:" + INT + rb")"
 PLAIN = re.compile(
-    rb"\{(?::index (" + INT + rb"), )?:type :(invoke|ok|fail|info), :process (" + INT + rb"), :f :(" + b"|".join(NAMES)
+    rb"\{(?::index (" + INT + rb"), )?:type :(invoke|ok|fail|info), :process (" + INT + rb"), :f :(" + b"|".join(BUILT_IN)
     + rb"), :value \[(" + INT + rb") (?:(nil)|(" + SIGNED + rb")|\[(" + SIGNED + rb") (" + SIGNED + rb")\])\]\}"
 )
+
+
+def use(own: kinds.OwnNames) -> Dict[str, bool]:
+    """Takes these names of a file of objects too, in this process and from now on. Gives those before."""
+    global NAMES, OWN
+    before = {name.decode(): asks for name, asks in OWN.items()}
+    OWN = {name.encode(): asks for name, asks in own.items()}
+    NAMES = BUILT_IN + tuple(sorted(OWN))
+    return before
 
 
 class Refusal(Exception):
@@ -96,6 +107,10 @@ def is_tagged(element: Element, tag: str) -> bool:
 
 def is_part(kind: bytes, name: bytes, part: Element) -> bool:
     """Whether an event of this type and operation may have the part."""
+    if name in OWN:
+        may_have_two = not OWN[name] or kind == b"ok"
+        return part is None or isinstance(part, int) or may_have_two and is_tagged(part, "vector") and len(part[1]) == 2 \
+            and all(isinstance(value, int) for value in part[1])
     if name == b"cas":
         return is_tagged(part, "vector") and len(part[1]) == 2 and all(isinstance(value, int) for value in part[1])
     if name not in WITHOUT_PART or kind == b"ok" and name == b"dequeue":
@@ -132,7 +147,7 @@ def text_of(part: Element) -> bytes:
 
 def is_completion_of(invoked: Event, event: Event) -> bool:
     """Test 4: whether the completion has the name, the key and (except for an answer) the part of its invocation."""
-    answered = event.kind == b"ok" and event.name in (b"read", b"dequeue")
+    answered = event.kind == b"ok" and (event.name in (b"read", b"dequeue") or event.name in OWN)
     return (event.name, event.key) == (invoked.name, invoked.key) and (answered or event.part == invoked.part)
 
 

@@ -51,7 +51,7 @@ def judge_shard(task: ShardTask) -> Judged:
     """Does the second pass over a shard."""
     statuses: List[Status] = []
     keys, rests = events_of(task.sources, task.shard, task.sizes.events)
-    for model, of_model in by_model(keys, task.options.model):
+    for model, of_model in by_model(keys, task.options.model, task.options.objects):
         options = task.options._replace(model=model)
         for batch in batches_of(of_model, rests, task.sizes):
             report = checked(batch.text, options._replace(concurrency=task.sizes.threads, workers=None), task.program)

@@ -21,16 +21,16 @@ Row = Tuple[bytes, bytes, bytes, bytes, bytes]  # the stated index, the head, th
 Head = Tuple[int, int, int, int]  # the code; for the process rule: the thread, and its state before and after
 
 LINE = re.compile(
-    rb"^\{(?::index (0|[1-9][0-9]{0,9}), )?(:type :[a-z]+, :process [0-9]+, :f :[a-z]+, ):value "
+    rb"^\{(?::index (0|[1-9][0-9]{0,9}), )?(:type :[a-z]+, :process [0-9]+, :f :[A-Za-z][A-Za-z0-9_?!*.-]*, ):value "
     rb"\[(0|[1-9][0-9]{0,17}) (nil|[-+]?[0-9]+|\[[-+0-9 ]*\]|\#\{[-+0-9 ]*\})\]"
     rb"(?:, :time (?:0|[1-9][0-9]{0,17}))?(?:, :jepsen-index (?:0|[1-9][0-9]{0,17}))?(?:, :jepsen-process (?:0|[1-9][0-9]{0,17}))?"
     rb"\}[ \t\r]*$|^(.+)$",
     re.MULTILINE,
 )
-HEAD = re.compile(rb":type :(invoke|ok|fail|info), :process (0|[1-9][0-9]{0,9}), :f :([a-z]+), ")
+HEAD = re.compile(rb":type :(invoke|ok|fail|info), :process (0|[1-9][0-9]{0,9}), :f :([A-Za-z][A-Za-z0-9_?!*.-]*), ")
 ODD = operator.itemgetter(4)
 
-KIND_BITS, NAME_BITS = 2, 3  # the lowest bits of a code; the process is above them
+KIND_BITS, NAME_BITS = 2, 8  # the lowest bits of a code, enough for the names of a file of objects; the process is above them
 
 
 def rows_of(block: bytes) -> Tuple[List[Row], int]:

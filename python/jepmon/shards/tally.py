@@ -39,7 +39,10 @@ class Tally(NamedTuple):
         return [model for model, operations in MODELS.items() if operations.issuperset(self.names())]
 
     def reads_of_nil(self) -> int:
-        """The number of reads that answered nil: the number of nil parts, without the parts of events that always have nil."""
+        """The number of reads that answered nil: the number of nil parts, without the parts of events that always have nil. Unknown, and 0, if
+        there are operations of a file of objects, whose parts may be nil."""
+        if not OPERATIONS.issuperset(self.names()):
+            return 0
         always = sum(self.number_of(name, kind) for name in WITHOUT_PART for kind in ("invoke", "fail", "info"))
         always += sum(self.number_of(name, "ok") for name in WITHOUT_PART if name in ("acquire", "release"))
         return self.nils - always

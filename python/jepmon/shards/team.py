@@ -13,7 +13,9 @@ import sys
 from types import TracebackType
 from typing import Any, Callable, Dict, Iterator, List, Optional, Sequence, Tuple, Type, TypeVar
 
+from ..history.kinds import NO_NAMES, OwnNames
 from .doubt import ShardsError
+from .events import use
 
 Task = TypeVar("Task")
 Result = TypeVar("Result")
@@ -69,10 +71,11 @@ class Member:
 
 
 class Team:
-    """A number of processes. A team of one does its tasks in this process."""
+    """A number of processes. A team of one does its tasks in this process. `own` has the names of a file of objects, which the events of its tasks
+    may have."""
 
-    def __init__(self, jobs: int) -> None:
-        self.jobs = jobs
+    def __init__(self, jobs: int, own: OwnNames = NO_NAMES) -> None:
+        self.jobs, self._own = jobs, own
         self._members: List[Member] = []
 
     def __enter__(self) -> "Team":
@@ -103,7 +106,11 @@ class Team:
     def _run(self, function: Callable[[Task], Result], tasks: Sequence[Task]) -> Iterator[Tuple[int, Result]]:
         waiting = iter(enumerate(tasks))
         while len(self._members) < min(self.jobs, len(tasks)):
-            self._members.append(Member())
+            member = Member()
+            self._members.append(member)
+            if self._own:
+                member.send(use, dict(self._own))
+                member.receive()
         running: Dict[Any, Tuple[Member, int]] = {}
         for member, (number, task) in zip(self._members, waiting):
             member.send(function, task)

@@ -2,11 +2,12 @@
 for each removal."""
 from __future__ import annotations
 
-from typing import Callable, Dict, List, Sequence, Tuple
+from typing import Callable, Dict, List, Optional, Sequence, Tuple
 
 from ..history import Operation
 from ..history.kinds import MODELS
-from . import mutex, queues, registers, sets
+from ..rules import Object
+from . import mutex, own as owns, queues, registers, sets
 from .units import Unit
 
 Rule = Callable[[Sequence[Operation], Sequence[int]], List[Unit]]
@@ -20,10 +21,12 @@ RULES: Dict[str, Tuple[Rule, ...]] = {
 }
 
 
-def ways(model: str, operations: Sequence[Operation]) -> List[List[Unit]]:
+def ways(model: str, operations: Sequence[Operation], own: Optional[Object] = None) -> List[List[Unit]]:
     """The units of a history of one key, from its operations in the order of their invocations. There is one list for each way to make
     units. A failed operation, or one that the object does not have, is a unit by itself. A rule of the model groups the other operations.
-    Units of one way may be removed together."""
+    Units of one way may be removed together. `own` is the object of a file that the key is, if it is one."""
+    if own is not None:
+        return owns.units(own, operations)
     alone = [place for place, operation in enumerate(operations)
              if operation.outcome == "fail" or operation.invocation.name not in MODELS[model]]
     others = sorted(set(range(len(operations))) - set(alone))

@@ -11,7 +11,7 @@ from .units import begin, end
 
 def kept(model: str, operations: Sequence[Operation], fatal: int) -> List[int]:
     """The places of the fatal operation, and of the operations that the part must show with it."""
-    return [fatal] + (KEPT[model](operations, fatal) if operations[fatal].outcome == "ok" else [])
+    return [fatal] + (KEPT[model](operations, fatal) if operations[fatal].outcome == "ok" and model in KEPT else [])
 
 
 def of_register(operations: Sequence[Operation], fatal: int) -> List[int]:

@@ -2,12 +2,16 @@
 from __future__ import annotations
 
 import heapq
+import re
 from typing import AbstractSet, Dict, Iterable, List, Sequence
 
 from ..history import Event, Operation
 from ..history.kinds import KEYS, THREADS
 from ..history.line import event_line, part_text
 from ..program import Options
+
+
+ORIGINAL = re.compile(r", :original-index ([0-9]+)")
 
 
 def without(operations: Sequence[Operation], out: AbstractSet[int], values: AbstractSet[int]) -> List[Operation]:
@@ -35,6 +39,34 @@ def text_of(events: Iterable[Event], concurrency: int) -> str:
     many clients for one check, each operation gets a free thread."""
     clients: Clients = Clients(concurrency) if concurrency <= THREADS else FreeThreads()
     return "".join(line_of(event, clients.process_of(event), f", :original-index {event.index}") + "\n" for event in events)
+
+
+def asked_text(events: Iterable[Event], options: Options) -> str:
+    """The events as a history by itself, for a question to the program with these options. If the object's operations ask for their clients,
+    the processes are those of the history, and operations of another key lead to them."""
+    return text_of(events, options.concurrency) if not options.names_clients else text_of_clients(events, options.concurrency)
+
+
+def original_index(text: str, index: int) -> int:
+    """Returns the index in the history of the event of this index in a text of `asked_text`."""
+    return int(ORIGINAL.findall(text.split("\n")[index])[-1])
+
+
+def text_of_clients(events: Iterable[Event], concurrency: int) -> str:
+    """The events with their own processes. A client becomes its next process by a read of another key that has timed out. Such a read
+    has no effect."""
+    current = list(range(concurrency))
+    lines: List[str] = []
+    for event in events:
+        thread = event.process % concurrency
+        while current[thread] != event.process:
+            key = 1 if event.key == 0 else 0
+            lines += [event_line(kind, current[thread], "read", key, "nil") for kind in ("invoke", "info")]
+            current[thread] += concurrency
+        lines.append(line_of(event, event.process, f", :original-index {event.index}"))
+        if event.kind == "info":
+            current[thread] += concurrency
+    return "".join(line + "\n" for line in lines)
 
 
 def as_asked(options: Options) -> Options:

@@ -15,6 +15,7 @@ from .course import reserved_of, stages_of
 from .errors import ServerError, where
 from .links import AUTO, NETWORKS
 from .needs import planned
+from .own_objects import works_of_file
 from .run import Given
 from .server import Server
 from .strikes.known import STRIKES
@@ -191,7 +192,8 @@ def _of_file(path: pathlib.Path) -> Type[Server]:
         raise ServerError(f"{path} has no class that is a jepmon.testing.Server")
     server: Type[Server] = found[-1]
     works = works_of(server)
-    unknown = [model for model in server.objects if model not in works or (works[model].model or model) not in kinds.MODELS]
+    known = {*kinds.MODELS, *works_of_file(server)}
+    unknown = [model for model in server.objects if model not in works or (works[model].model or model) not in known]
     if not server.objects or unknown:
         raise ServerError(f"{path}: {server.__name__}.objects names models and their clients, of {', '.join(kinds.MODELS)}; "
                           + (f"not {unknown[0]}" if unknown else "it is empty"))

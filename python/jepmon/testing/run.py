@@ -24,6 +24,7 @@ from .facts import facts_of, leave_facts, leave_pages
 from .generators import Pace
 from .links import network
 from .needs import planned
+from .own_objects import path_of
 from .server import Client, Server
 from .strikes.kind import NEEDS_CLOCK, NEEDS_CREW, NEEDS_DISK, NEEDS_LINKS, NEEDS_SPARE
 from .strikes.nemesis import Nemesis
@@ -112,7 +113,7 @@ class Test:
         client, kind = self.client, works_of(given.server)[given.model]
         unsure = (*client.unsure, Crashed) if self.plan.needs(NEEDS_CREW) else client.unsure
         monitor = LongMonitor(model=kind.model or given.model, budget=BUDGETS[-1], expected=unsure, failed=client.certain, out=given.out,
-                              keep=given.keep, events=EVENTS, names="", page=False, by_ends=given.by_ends)
+                              keep=given.keep, events=EVENTS, names="", page=False, by_ends=given.by_ends, objects=path_of(given.server))
         assert monitor.folder is not None
         leave_facts(monitor.folder, facts_of(given, self.network, self.plan.names))
         work = kind(monitor, given.clients, given.keys)

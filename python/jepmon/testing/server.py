@@ -23,6 +23,8 @@ class Client:
     certain  it certainly did not take place, for example if the connection was refused, so that nothing was sent: a :fail
     unsure   it may have taken place, or may still take place, for example after a timeout: an :info
 
+    An object of your own, of Server.rules, has `call(key, name, *arguments)`, which gives the answer of any of its operations.
+
     Failed (jepmon.testing.Failed) is always certain; raise it if a message has come before. Any other exception is a fault of the
     client, and ends the test. A client must not retry by itself."""
 
@@ -71,6 +73,7 @@ class Server:
 
     programs: Mapping[str, str] = {}  # each program that it needs, and the package of Debian that has it
     objects: Mapping[str, Type[Client]] = {}  # its models, and the client of each; the first model is the default
+    rules: str = ""  # a file with objects of your own (docs/guide/OBJECTS.md); a relative path begins at the folder of the class's file
     bears: Mapping[str, Tuple[str, ...]] = {}  # for each model: the strikes that it should survive, if not ALL_STRIKES
     survives_power: bool = False  # with its first durability it syncs acknowledged data, so that `all` has power and tear too
     durabilities: Mapping[str, str] = {}  # settings for acknowledged data, each with a text; --durability NAME sets self.durability

@@ -258,5 +258,7 @@ WORKS: Dict[str, Type[Work]] = {
 
 
 def works_of(server: Type[Server]) -> Dict[str, Type[Work]]:
-    """The operations of a server's clients on each kind of object: on the known ones, and on its own."""
-    return {**WORKS, **server.workloads}
+    """Returns the operations of a server's clients on each kind of object: on the known ones, on those of its file, and on its own."""
+    from .own_objects import works_of_file  # here, since it has a subclass of Work
+
+    return {**WORKS, **works_of_file(server), **server.workloads}

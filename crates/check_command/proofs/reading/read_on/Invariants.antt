@@ -1,6 +1,6 @@
 -- Elements were given.
 use Rattle.std.proofs.Common.{◌≡◌, length}
-use Rattle.edn.specs.Value.{Values}
+use Rattle.edn_values.specs.Value.{Values}
 use Rattle.edn.specs.Elements.{IsLeftBehind}
 use Rattle.check_command.proofs.reading.read_on.Given as goal
 

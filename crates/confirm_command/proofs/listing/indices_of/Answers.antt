@@ -1,8 +1,8 @@
 use Rattle.std.proofs.Common.{take, sym, ◌∙◌, subst, arith}
 use Rattle.std.proofs.lemmas.List.{length-take-le}
-use Rattle.edn.specs.Value.{none, more, joined}
-use Rattle.edn.specs.View.{value_of, values_of}
-use Rattle.edn.proofs.Matching.{seen_more}
+use Rattle.edn_values.specs.Value.{none, more, joined}
+use Rattle.edn_values.specs.View.{value_of, values_of}
+use Rattle.edn_values.proofs.Matching.{seen_more}
 use Rattle.confirm_command.specs.Listing.{Brings, listed_in, ListsAll}
 use Rattle.confirm_command.proofs.Lists.{count_of_values, element_at, lists_more}
 use Rattle.confirm_command.proofs.listing.indices_of.Goals as goal

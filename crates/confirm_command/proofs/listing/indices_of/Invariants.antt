@@ -1,5 +1,5 @@
 use Rattle.std.proofs.Common.{take}
-use Rattle.edn.specs.View.{values_of}
+use Rattle.edn_values.specs.View.{values_of}
 use Rattle.confirm_command.specs.Listing.{ListsAll}
 use Rattle.confirm_command.proofs.listing.indices_of.Given as goal
 

@@ -1,7 +1,7 @@
 use Rattle.std.proofs.Common.{◌^◌, ◌++◌, ◌∷◌, [], take, sym, ap, ◌∙◌, subst}
 use Rattle.std.proofs.lemmas.List.{append_assoc}
-use Rattle.edn.specs.View.{value_of, values_of}
-use Rattle.edn.proofs.Matching.{seen_more}
+use Rattle.edn_values.specs.View.{value_of, values_of}
+use Rattle.edn_values.proofs.Matching.{seen_more}
 use Rattle.events.specs.Spelling.{IsNumber}
 use Rattle.models.specs.Names.{Finds}
 use Rattle.confirm_command.specs.Listing.{AreIndices}

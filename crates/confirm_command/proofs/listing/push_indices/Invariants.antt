@@ -1,5 +1,5 @@
 use Rattle.std.proofs.Common.{◌≡◌, ℕ, List, ◌++◌, take}
-use Rattle.edn.specs.View.{values_of}
+use Rattle.edn_values.specs.View.{values_of}
 use Rattle.confirm_command.specs.Listing.{AreIndices}
 use Rattle.confirm_command.proofs.listing.push_indices.Given as goal
 

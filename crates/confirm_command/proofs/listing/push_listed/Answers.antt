@@ -1,6 +1,6 @@
 use Rattle.std.proofs.Common.{IfOk, option_map, sym, ap, ◌∙◌, subst}
 use Rattle.std.specs.Option.{option_copied}
-use Rattle.edn.specs.View.{value_of, values_of}
+use Rattle.edn_values.specs.View.{value_of, values_of}
 use Rattle.confirm_command.specs.Listing.{Brings}
 use Rattle.confirm_command.proofs.Lists.{listed_vector, listed_itself}
 use Rattle.confirm_command.proofs.listing.push_listed.Goals as goal

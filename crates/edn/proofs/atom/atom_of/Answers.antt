@@ -1,7 +1,7 @@
 use Rattle.std.proofs.Common.{◌≡◌, arith, sym, subst, to_z, of_z, w64}
 use Rattle.std.proofs.lemmas.Int.{ints}
-use Rattle.edn.specs.View.{value_of}
-use Rattle.edn.specs.Value.{keyword}
+use Rattle.edn_values.specs.View.{value_of}
+use Rattle.edn_values.specs.Value.{keyword}
 use Rattle.edn.specs.Bytes.{IsAtom}
 use Rattle.edn.specs.Longest.{IsLongest, atom_value}
 use Rattle.edn.proofs.Longest.{whole_atom, no_whole_atom, no_whole}

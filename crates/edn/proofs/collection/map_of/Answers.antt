@@ -1,7 +1,7 @@
-use Rattle.std.proofs.Common.{sym, ◌∙◌, subst}
-use Rattle.edn.specs.Value.{keys, AreDistinct}
-use Rattle.edn.specs.View.{value_of, entries_of}
-use Rattle.edn.proofs.Repeats.{keys_in, keys_of_pairs}
+use Rattle.std.proofs.Common.{sym, ◌∙◌, subst, map}
+use Rattle.edn_values.specs.Value.{keys, AreDistinct}
+use Rattle.edn_values.specs.View.{value_of, entries_of, list_of}
+use Rattle.edn.proofs.Pairing.{keys_of_pairs}
 use Rattle.edn.proofs.Deciding.{off}
 use Rattle.edn.proofs.Unique.{one_pairs}
 use Rattle.edn.proofs.Views.{view-Map}
@@ -11,7 +11,7 @@ pub returns-then-not-distinct-clause-unreadable : goal.returns-then-not-distinct
 returns-then-not-distinct-clause-unreadable c err ps h =
     let found = c.in_ok-pairs.pairs.items in
     let same = one_pairs ps (entries_of found) (sym h.0 ∙ c.in_ok-pairs.ensures.ok) in
-    let no = off c.in_ok-distinct.distinct (AreDistinct (keys_in (λ p. value_of p.0) c.deref.result.now)) c.if-not-distinct.true c.in_ok-distinct.ensures.1 in
+    let no = off c.in_ok-distinct.distinct (AreDistinct (list_of (map (λ p. value_of p.0) c.deref.result.now))) c.if-not-distinct.true c.in_ok-distinct.ensures.1 in
     no (rw c.deref.ensures.value (subst AreDistinct (sym (keys_of_pairs found)) (subst (λ qs. AreDistinct (keys qs)) same h.1)))
 
 pub returns-clause-ok : goal.returns-clause-ok

@@ -2,9 +2,9 @@ use Rattle.std.proofs.Common.{◌≡◌, List, [], ◌∷◌, ◌++◌, length, 
 use Rattle.std.specs.Vec.Iter.{into_iter_items, into_iter_len}
 use Rattle.std.specs.declared.alloc.Global.{Global}
 use Rattle.std.specs.declared.vec.IntoIter.{IntoIter}
-use Rattle.edn.specs.Value.{in_text, joined}
-use Rattle.edn.specs.View.{value_of, values_of, entries_of}
-use Rattle.edn.specs.declared.value.Edn.{Edn}
+use Rattle.edn_values.specs.Value.{in_text, joined}
+use Rattle.edn_values.specs.View.{value_of, values_of, entries_of}
+use Rattle.edn_values.specs.declared.value.Edn.{Edn}
 use Rattle.edn.proofs.Pairing.{paired_more, odd, joined_none}
 use Rattle.edn.proofs.collection.paired.Goals as goal
 

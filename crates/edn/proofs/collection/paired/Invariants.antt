@@ -1,7 +1,7 @@
 use Rattle.std.proofs.Common.{◌≡◌, length}
 use Rattle.std.specs.Vec.Iter.{into_iter_items}
-use Rattle.edn.specs.Value.{in_text, joined}
-use Rattle.edn.specs.View.{values_of, entries_of}
+use Rattle.edn_values.specs.Value.{in_text, joined}
+use Rattle.edn_values.specs.View.{values_of, entries_of}
 use Rattle.edn.proofs.collection.paired.Given as goal
 
 abbrev pub invariant-pairs : goal.invariant-pairs

@@ -1,7 +1,7 @@
 use Rattle.std.proofs.Common.{◌+◌, ◌<◌, length, refl, sym, ap, ◌∙◌, subst, arith, IfSome}
-use Rattle.edn.specs.Value.{Values, none, more, joined}
+use Rattle.edn_values.specs.Value.{Values, none, more, joined}
 use Rattle.edn.specs.Elements.{IsLeftBehind}
-use Rattle.edn.specs.View.{value_of}
+use Rattle.edn_values.specs.View.{value_of}
 use Rattle.edn.proofs.OneByOne.{count_more}
 use Rattle.edn.proofs.elements.check_text.Goals as goal
 

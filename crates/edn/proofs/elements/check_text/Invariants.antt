@@ -1,5 +1,5 @@
 use Rattle.std.proofs.Common.{◌≡◌, ◌+◌, ◌≤◌, length}
-use Rattle.edn.specs.Value.{Values}
+use Rattle.edn_values.specs.Value.{Values}
 use Rattle.edn.specs.Elements.{IsLeftBehind, count_of}
 use Rattle.edn.proofs.elements.check_text.Given as goal
 

@@ -1,6 +1,6 @@
 use Rattle.std.proofs.Common.{option_map, subst, arith}
 use Rattle.edn.specs.Reading.{FindsNext}
-use Rattle.edn.specs.View.{value_of}
+use Rattle.edn_values.specs.View.{value_of}
 use Rattle.edn.proofs.OneByOne.{left_closed}
 use Rattle.edn.proofs.elements.found_in.Goals as goal
 

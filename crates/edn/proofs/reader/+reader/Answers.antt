@@ -2,8 +2,8 @@ use Rattle.std.proofs.Common.{◌≡◌, ◌+◌, ◌-◌, suc, [], ◌∷◌, �
 use Rattle.std.proofs.lemmas.Result.{err_from_is_err_and}
 use Rattle.std.proofs.lemmas.Str.{IsUtf8-string_bytes}
 use Rattle.std.specs.Prelude.{string_bytes}
-use Rattle.edn.specs.Value.{text, vector, pairs, members, in_text, AreDistinct}
-use Rattle.edn.specs.View.{value_of, values_of}
+use Rattle.edn_values.specs.Value.{text, vector, pairs, members, in_text, AreDistinct}
+use Rattle.edn_values.specs.View.{value_of, values_of}
 use Rattle.edn.specs.Text.{Reads, ReadsAll}
 use Rattle.edn.specs.Text.Reads.{atom, in_quotes, in_brackets, in_braces, in_hash_braces}
 use Rattle.edn.specs.Reading.{FindsNext}

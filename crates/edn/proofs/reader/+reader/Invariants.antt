@@ -1,5 +1,5 @@
 use Rattle.std.proofs.Common.{◌+◌, ◌-◌, ◌*◌, ◌≤◌, length}
-use Rattle.edn.specs.View.{values_of}
+use Rattle.edn_values.specs.View.{values_of}
 use Rattle.edn.proofs.Resume.{SoFar, GapSoFar}
 use Rattle.edn.proofs.reader.+reader.Given as goal
 

@@ -1,8 +1,8 @@
 use Rattle.std.proofs.Common.{◌+◌, sym, ap, ◌∙◌, subst, arith}
 use borrow.Author.Tests.{ltb-true}
 use Rattle.edn_writer.specs.Profile.{IsInProfileAt, PairsAreInProfileAt}
-use Rattle.edn.specs.View.{value_of, entries_of}
-use Rattle.edn.proofs.Deciding.{off, none_here, all_here}
+use Rattle.edn_values.specs.View.{value_of, entries_of}
+use Rattle.edn_values.proofs.Deciding.{off, none_here, all_here}
 use Rattle.edn_writer.proofs.Profiles.{all_none, all_more, all_all, all_at, pairs_none, pairs_more, pairs_all, pairs_at, map_here, no_map}
 use Rattle.std.proofs.lemmas.Str.{IsUtf8-string_bytes}
 use Rattle.edn.proofs.Views.{view-Str, view-Map}

@@ -1,6 +1,6 @@
 use Rattle.std.proofs.Common.{take}
 use Rattle.edn_writer.specs.Profile.{AreInProfileAt, PairsAreInProfileAt}
-use Rattle.edn.specs.View.{values_of, entries_of}
+use Rattle.edn_values.specs.View.{values_of, entries_of}
 use Rattle.edn_writer.proofs.profile.+profile.Given as goal
 
 abbrev pub invariant-all_in_profile-loop-element : goal.invariant-all_in_profile-loop-element

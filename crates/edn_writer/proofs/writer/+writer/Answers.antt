@@ -1,7 +1,7 @@
 use Rattle.std.proofs.Common.{[], ◌∷◌, ◌++◌, cond, take, sym, ap, ◌∙◌, subst}
 use Rattle.std.specs.Prelude.{◌==◌}
-use Rattle.edn.specs.Value.{pairs}
-use Rattle.edn.specs.View.{value_of, values_of, entries_of}
+use Rattle.edn_values.specs.Value.{pairs}
+use Rattle.edn_values.specs.View.{value_of, values_of, entries_of}
 use Rattle.edn_writer.specs.Canonical.{canonical, separated_by, texts_of, pair_texts_of}
 use Rattle.edn_writer.specs.Writing.{Appends}
 use Rattle.edn.proofs.Views.{view-Map}

@@ -8,7 +8,7 @@ use Rattle.ends.proofs.growth.advance.Goals.{in-Ok-true, in_default, in_default-
 
 pub returns-clause-found : goal.returns-clause-found
 returns-clause-found g c =
-    let o = of_table g.row.M-State.Denot g.M.SeqObject.start_state g.M.SeqObject.apply_to in
+    let o = of_table g.row.M-State.Denot (g.M.Specification.start_of c.args.specification) (g.M.Specification.outcomes_of c.args.specification) in
     let ok = asked_by c.args.returning.now in
     let grow = c.grow-within_budget in
     let there : c.match-within_budget.left ≡ Ok c.in_ok-left.field-0 = search rules in

@@ -19,9 +19,9 @@ use Rattle.ends.proofs.growth.grow.Goals as goal
 
 pub loop-from-init : goal.loop-from-init
 loop-from-init g c =
-    let o = of_table g.row.M-State.Denot g.M.SeqObject.start_state g.M.SeqObject.apply_to in
+    let o = of_table g.row.M-State.Denot (g.M.Specification.start_of c.args.specification) (g.M.Specification.outcomes_of c.args.specification) in
     record {
-      moves = moves_none g.M.SeqObject.apply_to c.args.returning.now.calls.now c.args.table.now c.note_likes.new.moves.known c.note_likes.new.moves.targets.items (subst (λ (k : Known). AreUntried k.list) (sym c.in_ok-note_likes.ensures.known) c.forget.ensures.known);
+      moves = moves_none (g.M.Specification.outcomes_of c.args.specification) c.args.returning.now.calls.now c.args.table.now c.note_likes.new.moves.known c.note_likes.new.moves.targets.items (subst (λ (k : Known). AreUntried k.list) (sym c.in_ok-note_likes.ensures.known) c.forget.ensures.known);
       alike = c.in_ok-note_likes.ensures.likes;
       only_adds = adds_itself c.args.table.now c.args.applied.now;
       grown = λ once ends shown closed. (ends, shown, Grows-itself o c.args.returning.now.calls.now ends, (λ e f h n. absurd (Contains-nil e h)), IsPrefixOf-itself ends);
@@ -30,7 +30,7 @@ loop-from-init g c =
 
 pub loop-from-preserved : goal.loop-from-preserved
 loop-from-preserved g c =
-    let o = of_table g.row.M-State.Denot g.M.SeqObject.start_state g.M.SeqObject.apply_to in
+    let o = of_table g.row.M-State.Denot (g.M.Specification.start_of c.args.specification) (g.M.Specification.outcomes_of c.args.specification) in
     record {
       moves = c.in_ok-grow_from.ensures.moves.known c.loop-from.invariant.moves;
       alike = subst (λ (v : Vec Like Global). AreAlike c.args.returning.now.calls.now v.items) (sym c.in_ok-grow_from.ensures.moves.likes) c.loop-from.invariant.alike;
@@ -47,7 +47,7 @@ loop-from-preserved g c =
 
 pub loop-from-preserved-then-first-returning : goal.loop-from-preserved-then-first-returning
 loop-from-preserved-then-first-returning g c =
-    let o = of_table g.row.M-State.Denot g.M.SeqObject.start_state g.M.SeqObject.apply_to in
+    let o = of_table g.row.M-State.Denot (g.M.Specification.start_of c.args.specification) (g.M.Specification.outcomes_of c.args.specification) in
     let i = c.loop-from.invariant in
     let calls = c.args.returning.now.calls.now in
     let t = c.loop-from.table in
@@ -72,14 +72,14 @@ grow_from-requires-clause-row g c = sym (get_or_from_slice_get (rows_of c.loop-f
 
 pub returns-then-from-len-clause-grows : goal.returns-then-from-len-clause-grows
 returns-then-from-len-clause-grows g c once ends shown closed =
-    let o = of_table g.row.M-State.Denot g.M.SeqObject.start_state g.M.SeqObject.apply_to in
+    let o = of_table g.row.M-State.Denot (g.M.Specification.start_of c.args.specification) (g.M.Specification.outcomes_of c.args.specification) in
     let s = c.loop-from.invariant.grown once ends shown closed in
     let long = s.1.long in
     record { more = s.0; shown = s.1; grows = s.2; closed = λ is. all_done o c.args.returning.now.calls.now s.0 c.loop-from.from (omega (arith, long)) s.3 }
 
 pub returns-clause-grows : goal.returns-clause-grows
 returns-clause-grows g c once ends shown closed =
-    let o = of_table g.row.M-State.Denot g.M.SeqObject.start_state g.M.SeqObject.apply_to in
+    let o = of_table g.row.M-State.Denot (g.M.Specification.start_of c.args.specification) (g.M.Specification.outcomes_of c.args.specification) in
     let s = c.loop-from.invariant.grown once ends shown closed in
     let long = s.1.long in
     record {
@@ -94,14 +94,14 @@ returns-in_err-grow_from-clause-only_adds g c = adds_on c.loop-from.invariant.on
 
 pub returns-then-len-returning-clause-over : goal.returns-then-len-returning-clause-over
 returns-then-len-returning-clause-over g c once ends each_once shown closed _ =
-    let o = of_table g.row.M-State.Denot g.M.SeqObject.start_state g.M.SeqObject.apply_to in
+    let o = of_table g.row.M-State.Denot (g.M.Specification.start_of c.args.specification) (g.M.Specification.outcomes_of c.args.specification) in
     let s = c.loop-from.invariant.grown once ends shown closed in
     let long = s.1.long in
     beyond_found o c.args.returning.now.calls.now ends c.args.returning.now.budget s.0 each_once s.2 (omega (arith, long))
 
 pub returns-clause-over : goal.returns-clause-over
 returns-clause-over g c once ends each_once shown closed none =
-    let o = of_table g.row.M-State.Denot g.M.SeqObject.start_state g.M.SeqObject.apply_to in
+    let o = of_table g.row.M-State.Denot (g.M.Specification.start_of c.args.specification) (g.M.Specification.outcomes_of c.args.specification) in
     let s = c.loop-from.invariant.grown once ends shown closed in
     let long = s.1.long in
     beyond_found o c.args.returning.now.calls.now ends c.args.returning.now.budget s.0 each_once s.2 (let many : c.args.returning.now.budget < length (rows_of c.loop-from.table) = search rules in omega (arith, long, many))
@@ -113,7 +113,7 @@ returns-then-leads_beyond-clause-grows g c once ends shown closed =
 
 pub returns-then-leads_beyond-clause-over : goal.returns-then-leads_beyond-clause-over
 returns-then-leads_beyond-clause-over g c once ends each_once shown closed _ =
-    let o = of_table g.row.M-State.Denot g.M.SeqObject.start_state g.M.SeqObject.apply_to in
+    let o = of_table g.row.M-State.Denot (g.M.Specification.start_of c.args.specification) (g.M.Specification.outcomes_of c.args.specification) in
     let s = c.loop-from.invariant.grown once ends shown closed in
     let p = end_at c.args.returning.now.calls.now c.loop-from.table s.0 s.1 c.loop-from.from c.look.new.row c.in_ok-look.ensures in
     beyond_from o c.args.returning.now.calls.now ends c.args.returning.now.budget p.0 (s.2.reached p.0 (has_place s.0 c.loop-from.from p.0 p.1)) (c.leads_beyond.ensures.beyond c.if-leads_beyond.true p.0 p.2)

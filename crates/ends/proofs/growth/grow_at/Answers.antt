@@ -12,14 +12,14 @@ use Rattle.ends.proofs.growth.grow_at.Goals as goal
 pub returns-clause-moves : goal.returns-clause-moves
 returns-clause-moves g c =
     on_ok c.put_led.result (record {
-      known = λ known. moves_wider g.M.SeqObject.apply_to c.args.calls.now c.led_to.new.table c.put_led.new.table c.led_to.new.moves.known c.led_to.new.moves.targets.items
+      known = λ known. moves_wider (g.M.Specification.outcomes_of c.args.specification) c.args.calls.now c.led_to.new.table c.put_led.new.table c.led_to.new.moves.known c.led_to.new.moves.targets.items
           (widens_rows c.led_to.new.table c.put_led.new.table c.put_led.ensures.only_rows.states c.put_led.ensures.only_rows.founds) (c.in_ok-to.ensures.moves.known known);
       likes = c.in_ok-to.ensures.moves.likes;
     })
 
 pub returns-clause-adds : goal.returns-clause-adds
 returns-clause-adds g c known alike once call e ends here shows shown =
-    let o = of_table g.row.M-State.Denot g.M.SeqObject.start_state g.M.SeqObject.apply_to in
+    let o = of_table g.row.M-State.Denot (g.M.Specification.start_of c.args.specification) (g.M.Specification.outcomes_of c.args.specification) in
     let calls = c.args.calls.now in
     let row = get_or (rows_of c.led_to.new.table) c.args.from [] in
     let targets = targets_of c.in_ok-to.to c.deref.result.now in
@@ -40,7 +40,7 @@ returns-clause-only_adds g c = record {
 
 pub returns-in-Nowhere-clause-adds : goal.returns-in-Nowhere-clause-adds
 returns-in-Nowhere-clause-adds g c known alike once call e ends here shows shown =
-    let o = of_table g.row.M-State.Denot g.M.SeqObject.start_state g.M.SeqObject.apply_to in
+    let o = of_table g.row.M-State.Denot (g.M.Specification.start_of c.args.specification) (g.M.Specification.outcomes_of c.args.specification) in
     let calls = c.args.calls.now in
     let t = c.led_to.new.table in
     let row = c.args.row.now in

@@ -18,7 +18,7 @@ calls-init g c = record {
   here = refl;
   within = c.requires.here;
   moves = record { known = λ known. known; likes = refl };
-  grown = λ known alike once e ends shows shown. record { more = ends; shown = shown; front = IsPrefixOf-itself ends; adds = none_yet (of_table g.row.M-State.Denot g.M.SeqObject.start_state g.M.SeqObject.apply_to) c.args.calls.now c.args.first e ends };
+  grown = λ known alike once e ends shows shown. record { more = ends; shown = shown; front = IsPrefixOf-itself ends; adds = none_yet (of_table g.row.M-State.Denot (g.M.Specification.start_of c.args.specification) (g.M.Specification.outcomes_of c.args.specification)) c.args.calls.now c.args.first e ends };
   from = omega arith;
   upto = omega arith;
   cost = omega arith;
@@ -29,7 +29,7 @@ grow_at-requires-clause-row g c = c.requires.row ∙ sym c.calls.invariant.here
 
 pub calls-preserved : goal.calls-preserved
 calls-preserved g c =
-    let o = of_table g.row.M-State.Denot g.M.SeqObject.start_state g.M.SeqObject.apply_to in
+    let o = of_table g.row.M-State.Denot (g.M.Specification.start_of c.args.specification) (g.M.Specification.outcomes_of c.args.specification) in
     let i = c.calls.invariant in
     let calls = c.args.calls.now in
     record {
@@ -51,7 +51,7 @@ calls-preserved g c =
 
 pub calls-preserved-then-not-has_zero : goal.calls-preserved-then-not-has_zero
 calls-preserved-then-not-has_zero g c =
-    let o = of_table g.row.M-State.Denot g.M.SeqObject.start_state g.M.SeqObject.apply_to in
+    let o = of_table g.row.M-State.Denot (g.M.Specification.start_of c.args.specification) (g.M.Specification.outcomes_of c.args.specification) in
     let i = c.calls.invariant in
     let calls = c.args.calls.now in
     let t = c.calls.table in
@@ -73,7 +73,7 @@ calls-preserved-then-not-has_zero g c =
 
 pub calls-preserved-then-stuck-gt0 : goal.calls-preserved-then-stuck-gt0
 calls-preserved-then-stuck-gt0 g c =
-    let o = of_table g.row.M-State.Denot g.M.SeqObject.start_state g.M.SeqObject.apply_to in
+    let o = of_table g.row.M-State.Denot (g.M.Specification.start_of c.args.specification) (g.M.Specification.outcomes_of c.args.specification) in
     let i = c.calls.invariant in
     let calls = c.args.calls.now in
     let t = c.calls.table in
@@ -87,7 +87,7 @@ calls-preserved-then-stuck-gt0 g c =
       grown = λ known alike once e ends shows shown.
           let now = subst (λ (v : Vec Like Global). AreAlike calls v.items) (sym i.moves.likes) alike in
           pass o calls e ends c.args.first t c.count_leading_nowhere-stuck.result c.calls.at i.from high
-          (λ k call lt there. stuck_there g.row.M-State.Denot g.M.SeqObject.start_state g.M.SeqObject.apply_to calls t m.known m.targets.items (i.moves.known known) c.args.row.now e
+          (λ k call lt there. stuck_there g.row.M-State.Denot (g.M.Specification.start_of c.args.specification) (g.M.Specification.outcomes_of c.args.specification) calls t m.known m.targets.items (i.moves.known known) c.args.row.now e
           (shows_more calls c.args.table.now t c.args.row.now e i.only_adds.widens shows) c.first-number.result (c.calls.at + k) call c.first-number.ensures there (c.count_leading_nowhere-stuck.ensures.stuck (c.run_of_equal_calls-like.ensures.all now) k lt))
           (i.grown known alike once e ends shows shown);
       from = (let a = i.from in omega (arith, a));
@@ -97,7 +97,7 @@ calls-preserved-then-stuck-gt0 g c =
 
 pub returns-clause-adds : goal.returns-clause-adds
 returns-clause-adds g c known alike once e ends shows shown =
-    let o = of_table g.row.M-State.Denot g.M.SeqObject.start_state g.M.SeqObject.apply_to in
+    let o = of_table g.row.M-State.Denot (g.M.Specification.start_of c.args.specification) (g.M.Specification.outcomes_of c.args.specification) in
     subst (λ l. ShownWith c.calls.table c.args.calls.now ends (Next o (drop c.args.first l) e)) (take_all c.calls.at c.args.calls.now (omega arith)) (c.calls.invariant.grown known alike once e ends shows shown)
 
 pub returns-clause-cost : goal.returns-clause-cost

@@ -12,9 +12,9 @@ invariant-calls g l =
       only_adds : OnlyAdds l.initial.table l.table l.initial.applied l.applied;
       here : get_or (rows_of l.table) l.from [] ≡ get_or (rows_of l.initial.table) l.from [];
       within : l.from < length (rows_of l.table);
-      moves : KeepMoves g.M.SeqObject.apply_to l.calls l.initial.table l.table l.initial.moves l.moves;
-      grown : AreMoves g.M.SeqObject.apply_to l.initial.table l.calls l.initial.moves.known l.initial.moves.targets.items → AreAlike l.calls l.initial.moves.likes.items → HasEachOnce l.calls → (e : End g.row.M-State.Denot) (ends : List (End g.row.M-State.Denot)) → Shows l.initial.table l.calls l.row e → AreShown l.initial.table l.calls ends
-          → ShownWith l.table l.calls ends (Next (of_table g.row.M-State.Denot g.M.SeqObject.start_state g.M.SeqObject.apply_to) (drop l.first (take l.at l.calls)) e);
+      moves : KeepMoves (g.M.Specification.outcomes_of l.specification) l.calls l.initial.table l.table l.initial.moves l.moves;
+      grown : AreMoves (g.M.Specification.outcomes_of l.specification) l.initial.table l.calls l.initial.moves.known l.initial.moves.targets.items → AreAlike l.calls l.initial.moves.likes.items → HasEachOnce l.calls → (e : End g.row.M-State.Denot) (ends : List (End g.row.M-State.Denot)) → Shows l.initial.table l.calls l.row e → AreShown l.initial.table l.calls ends
+          → ShownWith l.table l.calls ends (Next (of_table g.row.M-State.Denot (g.M.Specification.start_of l.specification) (g.M.Specification.outcomes_of l.specification)) (drop l.first (take l.at l.calls)) e);
       from : l.first ≤ l.at;
       upto : l.at ≤ l.first + length l.calls;
       cost : l.applied + l.first ≤ l.initial.applied + l.at;

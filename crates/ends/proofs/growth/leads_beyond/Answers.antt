@@ -15,11 +15,11 @@ returns-then-has_zero-clause-beyond g c _ e shows =
     let call = get_or calls c.loop-at.at c.index-calls-at.result in
     let here : slice_get calls c.loop-at.at ≡ Some call = slice_get-get_or calls c.loop-at.at c.index-calls-at.result (omega arith) in
     let state = c.in-Some.ensures calls c.args.row.now e c.first.ensures shows in
-    let more : c.args.budget < length (g.M.SeqObject.apply_to call.op c.in-Some.state.now) = c.has_more_outcomes.ensures.more.0 c.if-has_more_outcomes.true in
-    beyond_by g.row.M-State.Denot g.M.SeqObject.start_state g.M.SeqObject.apply_to calls call e c.args.budget (has_place calls c.loop-at.at call here)
+    let more : c.args.budget < length ((g.M.Specification.outcomes_of c.args.specification) call.op c.in-Some.state.now) = c.has_more_outcomes.ensures.more.0 c.if-has_more_outcomes.true in
+    beyond_by g.row.M-State.Denot (g.M.Specification.start_of c.args.specification) (g.M.Specification.outcomes_of c.args.specification) calls call e c.args.budget (has_place calls c.loop-at.at call here)
     (not_in_row c.args.table.now calls c.args.row.now e c.loop-at.at call here shows (c.has_zero.ensures.0 c.if-has_zero.true))
-    (subst (λ s. AreApart (g.M.SeqObject.apply_to call.op s)) state c.has_more_outcomes.ensures.apart)
-    (subst (λ s. c.args.budget < length (g.M.SeqObject.apply_to call.op s)) state more)
+    (subst (λ s. AreApart ((g.M.Specification.outcomes_of c.args.specification) call.op s)) state c.has_more_outcomes.ensures.apart)
+    (subst (λ s. c.args.budget < length ((g.M.Specification.outcomes_of c.args.specification) call.op s)) state more)
 
 pub loop-at-preserved : goal.loop-at-preserved
 loop-at-preserved g c i d e low lt there shows out =
@@ -36,8 +36,8 @@ loop-at-preserved g c i d e low lt there shows out =
           (λ h. true≢false (sym (w.has_zero.ensures.1 (subst (λ k. slice_get row (k + 1) ≡ Some 0) last h)) ∙ w.if-has_zero.false))) ∙ out))
       | else-has_more_outcomes-via-else-has_more_outcomes w ↦
           let state = c.in-Some.ensures calls c.args.row.now e c.first.ensures shows in
-          let few : length (g.M.SeqObject.apply_to call.op c.in-Some.state.now) ≤ c.args.budget = few_by c.has_more_outcomes.result c.args.budget (length (g.M.SeqObject.apply_to call.op c.in-Some.state.now)) c.has_more_outcomes.ensures.more w.if-has_more_outcomes.false in
-          subst (λ (x : PendingOp). length (g.M.SeqObject.apply_to x.op e.state) ≤ c.args.budget) same (subst (λ s. length (g.M.SeqObject.apply_to call.op s) ≤ c.args.budget) state few)
+          let few : length ((g.M.Specification.outcomes_of c.args.specification) call.op c.in-Some.state.now) ≤ c.args.budget = few_by c.has_more_outcomes.result c.args.budget (length ((g.M.Specification.outcomes_of c.args.specification) call.op c.in-Some.state.now)) c.has_more_outcomes.ensures.more w.if-has_more_outcomes.false in
+          subst (λ (x : PendingOp). length ((g.M.Specification.outcomes_of c.args.specification) x.op e.state) ≤ c.args.budget) same (subst (λ s. length ((g.M.Specification.outcomes_of c.args.specification) call.op s) ≤ c.args.budget) state few)
     ])
     (λ other. c.loop-at.invariant i d e low (omega (arith, lt, other)) there shows out)
     (cases_eq i c.loop-at.at)

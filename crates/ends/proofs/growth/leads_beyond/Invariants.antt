@@ -8,4 +8,4 @@ use Rattle.ends.proofs.growth.leads_beyond.Given as goal
 abbrev pub invariant-loop-at : goal.invariant-loop-at
 invariant-loop-at g l =
     (i : ℕ) (c : PendingOp) (e : End g.row.M-State.Denot) → l.first ≤ i → i < l.at → slice_get l.calls i ≡ Some c
-    → Shows l.table l.calls l.row e → is_in e c.id c.crashed ≡ false → length (g.M.SeqObject.apply_to c.op e.state) ≤ l.budget
+    → Shows l.table l.calls l.row e → is_in e c.id c.crashed ≡ false → length ((g.M.Specification.outcomes_of l.specification) c.op e.state) ≤ l.budget

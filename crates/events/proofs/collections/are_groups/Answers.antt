@@ -1,7 +1,7 @@
 use Rattle.std.proofs.Common.{◌≡◌, ◌++◌, ◌∷◌, [], refl, sym, ap, ◌∙◌, subst}
 use Rattle.std.specs.Prelude.{IsSomeAnd}
 use Rattle.std.specs.List.{concat}
-use Rattle.edn.specs.View.{value_of, values_of}
+use Rattle.edn_values.specs.View.{value_of, values_of}
 use Rattle.edn.proofs.Views.{view-Vector}
 use Rattle.events.specs.Replicas.{AreApart, AreGroups, HasSeen}
 use Rattle.events.specs.Spelling.{numbers_in, groups_in, each_in}

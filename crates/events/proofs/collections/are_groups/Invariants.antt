@@ -1,6 +1,6 @@
 use Rattle.std.proofs.Common.{◌≡◌, ℕ, List}
 use Rattle.std.specs.List.{concat}
-use Rattle.edn.specs.View.{values_of}
+use Rattle.edn_values.specs.View.{values_of}
 use Rattle.events.specs.Replicas.{HasSeen}
 use Rattle.events.specs.Spelling.{numbers_in, each_in}
 use Rattle.events.proofs.ReadEach.{after, read_from}

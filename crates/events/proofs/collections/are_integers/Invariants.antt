@@ -1,5 +1,5 @@
 use Rattle.std.proofs.Common.{◌≡◌, is_some}
-use Rattle.edn.specs.Parts.{int_in}
+use Rattle.edn_values.specs.Parts.{int_in}
 use Rattle.events.proofs.ReadEach.{read_from}
 use Rattle.events.proofs.collections.are_integers.Given as goal
 

@@ -1,6 +1,6 @@
 use Rattle.std.proofs.Common.{◌≡◌, ◌+◌, ◌∷◌, [], ℕ, Vec, Global, map, Some, None, sym, ap, ◌∙◌, rules}
 use Rattle.std.proofs.lemmas.List.{map-append}
-use Rattle.edn.specs.View.{value_of, values_of}
+use Rattle.edn_values.specs.View.{value_of, values_of}
 use Rattle.edn.proofs.Views.{view-Vector}
 use Rattle.events.specs.Spelling.{numbers_in, groups_in, each_in}
 use Rattle.events.proofs.ReadEach.{after, all_of, none_of, one_more, read_from}

@@ -1,5 +1,5 @@
 use Rattle.std.proofs.Common.{◌≡◌, ℕ, Vec, Global, map, drop}
-use Rattle.edn.specs.View.{values_of}
+use Rattle.edn_values.specs.View.{values_of}
 use Rattle.events.specs.Spelling.{numbers_in, each_in}
 use Rattle.events.proofs.ReadEach.{after}
 use Rattle.events.proofs.collections.groups_of.Given as goal

@@ -1,6 +1,6 @@
 use Rattle.std.proofs.Common.{◌≡◌, ◌+◌, ◌++◌, ◌∷◌, [], None, sym, ap, ◌∙◌, rules}
-use Rattle.edn.specs.View.{value_of}
-use Rattle.edn.specs.Parts.{int_in}
+use Rattle.edn_values.specs.View.{value_of}
+use Rattle.edn_values.specs.Parts.{int_in}
 use Rattle.events.proofs.ReadEach.{after, all_of, none_of, one_more, read_from}
 use Rattle.events.proofs.collections.integers_of.Goals as goal
 

@@ -1,6 +1,6 @@
 use Rattle.std.proofs.Common.{◌≡◌, drop}
-use Rattle.edn.specs.View.{values_of}
-use Rattle.edn.specs.Parts.{int_in}
+use Rattle.edn_values.specs.View.{values_of}
+use Rattle.edn_values.specs.Parts.{int_in}
 use Rattle.events.specs.Spelling.{each_in}
 use Rattle.events.proofs.ReadEach.{after}
 use Rattle.events.proofs.collections.integers_of.Given as goal

@@ -1,6 +1,6 @@
 use Rattle.std.proofs.Common.{◌≡◌, ◌^◌, Some, ◌++◌, ◌∷◌, [], sym, ap, ◌∙◌, subst, append_assoc}
 use Rattle.std.specs.Prelude.{IsSomeAnd}
-use Rattle.edn.specs.View.{value_of, values_of}
+use Rattle.edn_values.specs.View.{value_of, values_of}
 use Rattle.edn.proofs.Views.{view-Vector}
 use Rattle.events.specs.Replicas.{AreApart, HasSeen}
 use Rattle.events.specs.Spelling.{number_in, numbers_in, each_in}

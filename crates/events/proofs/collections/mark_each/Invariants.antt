@@ -1,5 +1,5 @@
 use Rattle.std.proofs.Common.{◌≡◌, ◌^◌, ℕ, List, ◌++◌}
-use Rattle.edn.specs.View.{values_of}
+use Rattle.edn_values.specs.View.{values_of}
 use Rattle.events.specs.Replicas.{HasSeen}
 use Rattle.events.specs.Spelling.{number_in, each_in}
 use Rattle.events.proofs.ReadEach.{after, read_from}

@@ -1,5 +1,5 @@
 use Rattle.std.proofs.Common.{◌≡◌, ◌^◌, ◌+◌, None, sym, ap, ◌∙◌, rules}
-use Rattle.edn.specs.View.{value_of, values_of}
+use Rattle.edn_values.specs.View.{value_of, values_of}
 use Rattle.edn.proofs.Views.{view-Vector}
 use Rattle.events.specs.Spelling.{number_in, numbers_in, each_in}
 use Rattle.events.proofs.ReadEach.{after, all_of, none_of, one_more, read_from}

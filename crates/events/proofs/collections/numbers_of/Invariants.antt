@@ -1,5 +1,5 @@
 use Rattle.std.proofs.Common.{◌≡◌, ◌^◌, drop}
-use Rattle.edn.specs.View.{values_of}
+use Rattle.edn_values.specs.View.{values_of}
 use Rattle.events.specs.Spelling.{number_in, each_in}
 use Rattle.events.proofs.ReadEach.{after}
 use Rattle.events.proofs.collections.numbers_of.Given as goal

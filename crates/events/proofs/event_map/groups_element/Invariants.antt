@@ -1,5 +1,5 @@
 use Rattle.std.proofs.Common.{◌≡◌, ℕ, Vec, Global, Some, map, take}
-use Rattle.edn.specs.View.{value_of, values_of}
+use Rattle.edn_values.specs.View.{value_of, values_of}
 use Rattle.events.specs.Spelling.{each_in, numbers_in}
 use Rattle.events.specs.EventMap.{numbers}
 use Rattle.events.proofs.event_map.groups_element.Given as goal

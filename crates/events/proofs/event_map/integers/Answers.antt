@@ -1,6 +1,6 @@
 use Rattle.std.proofs.Common.{pos, ap, ◌∙◌, rules}
-use Rattle.edn.specs.View.{value_of}
-use Rattle.edn.specs.Value.{int}
+use Rattle.edn_values.specs.View.{value_of}
+use Rattle.edn_values.specs.Value.{int}
 use Rattle.edn.proofs.Views.{view-Int}
 use Rattle.events.proofs.Written.{told_more}
 use Rattle.events.proofs.event_map.integers.Goals as goal

@@ -1,6 +1,6 @@
 use Rattle.std.proofs.Common.{◌≡◌, map, take}
-use Rattle.edn.specs.Value.{int}
-use Rattle.edn.specs.View.{value_of}
+use Rattle.edn_values.specs.Value.{int}
+use Rattle.edn_values.specs.View.{value_of}
 use Rattle.events.proofs.event_map.integers.Given as goal
 
 abbrev pub invariant-loop-value : goal.invariant-loop-value

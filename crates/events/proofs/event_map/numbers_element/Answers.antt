@@ -1,6 +1,6 @@
 use Rattle.std.proofs.Common.{ap, ◌∙◌, rules, arith}
-use Rattle.edn.specs.View.{value_of}
-use Rattle.edn.specs.Value.{int}
+use Rattle.edn_values.specs.View.{value_of}
+use Rattle.edn_values.specs.Value.{int}
 use Rattle.edn.proofs.Views.{view-Int}
 use Rattle.events.specs.EventMap.{number}
 use Rattle.events.proofs.Written.{numbers_told, told_more}

@@ -1,5 +1,5 @@
 use Rattle.std.proofs.Common.{◌≡◌, map, take}
-use Rattle.edn.specs.View.{value_of}
+use Rattle.edn_values.specs.View.{value_of}
 use Rattle.events.specs.EventMap.{number}
 use Rattle.events.proofs.event_map.numbers_element.Given as goal
 

@@ -1,7 +1,7 @@
 use Rattle.std.proofs.Common.{map, sym, ap, ◌∙◌, subst}
-use Rattle.edn.specs.Value.{int}
-use Rattle.edn.specs.View.{value_of}
-use Rattle.edn.specs.declared.value.Edn.{Set as ASet}
+use Rattle.edn_values.specs.Value.{int}
+use Rattle.edn_values.specs.View.{value_of}
+use Rattle.edn_values.specs.declared.value.Edn.{Set as ASet}
 use Rattle.events.specs.Spelling.{SpellsPart}
 use Rattle.events.proofs.Written.{set_told}
 use Rattle.events.proofs.event_map.part_element.Goals as goal

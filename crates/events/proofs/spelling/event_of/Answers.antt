@@ -1,5 +1,7 @@
 use Rattle.std.proofs.Common.{◌≡◌, true, false, refl}
-use Rattle.edn.specs.View.{value_of}
+use Rattle.std.specs.Option.{option_copied}
+use Rattle.edn_values.specs.View.{value_of}
+use Rattle.events.specs.OwnNames.{own_by}
 use Rattle.events.proofs.OneEvent.{tables_by_head}
 use Rattle.events.proofs.spelling.event_of.Goals as goal
 
@@ -18,5 +20,5 @@ pub returns-then-not-is_in_tables-clause-found : goal.returns-then-not-is_in_tab
 returns-then-not-is_in_tables-clause-found c e h =
     let head = c.in-Some.head in
     let yes : false ≡ true = c.if-not-is_in_tables.ensures.1
-    (tables_by_head (value_of c.args.element.now) e head.index head.kind head.process c.in-Some-2.body c.in-Some.ensures (rw c.in-Some-2.is at c.in_ok-body.ensures.found) h) in
+    (tables_by_head (own_by (option_copied c.args.names)) (value_of c.args.element.now) e head.index head.kind head.process c.in-Some.ensures h c.in-Some-2.body (rw c.in-Some-2.is at c.in_ok-body.ensures.found)) in
     cc

@@ -1,5 +1,5 @@
 use Rattle.std.proofs.Common.{◌≡◌, false, true, refl}
-use Rattle.edn.specs.View.{value_of}
+use Rattle.edn_values.specs.View.{value_of}
 use Rattle.events.proofs.OneEvent.{told_by, partition_told}
 use Rattle.events.proofs.spelling.fault_of.Goals as goal
 

@@ -1,5 +1,5 @@
 use Rattle.std.proofs.Common.{◌≡◌, false, true, [], sym, ◌∙◌, refl}
-use Rattle.edn.specs.View.{value_of}
+use Rattle.edn_values.specs.View.{value_of}
 use Rattle.events.proofs.AnySet.{any_set}
 use Rattle.events.proofs.Values.{no_part, some_set}
 use Rattle.events.proofs.spelling.part_of.Goals as goal

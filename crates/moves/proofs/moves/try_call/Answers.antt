@@ -8,7 +8,7 @@ use Rattle.moves.proofs.moves.try_call.Goals as goal
 
 pub returns-clause-moves : goal.returns-clause-moves
 returns-clause-moves g c =
-    let apply = g.M.SeqObject.apply_to in
+    let apply = (g.M.Specification.outcomes_of c.args.specification) in
     let calls = c.args.calls.now in
     let t = c.args.table.now in
     let u = c.move_to.new.table in
@@ -32,7 +32,7 @@ returns-clause-moves g c =
 
 pub returns-clause-does : goal.returns-clause-does
 returns-clause-does g c s call is here =
-    let apply = g.M.SeqObject.apply_to in
+    let apply = (g.M.Specification.outcomes_of c.args.specification) in
     let u = c.move_to.new.table in
     let there = c.index-calls-at.result in
     let targets = c.move_to.new.targets.items in
@@ -45,7 +45,7 @@ returns-clause-does g c s call is here =
 
 pub returns-in_default-clause-moves : goal.returns-in_default-clause-moves
 returns-in_default-clause-moves g c =
-    let apply = g.M.SeqObject.apply_to in
+    let apply = (g.M.Specification.outcomes_of c.args.specification) in
     let calls = c.args.calls.now in
     let t = c.args.table.now in
     let m = c.forget_many.new.moves in

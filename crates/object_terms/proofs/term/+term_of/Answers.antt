@@ -1,5 +1,5 @@
 use Rattle.std.proofs.Common.{◌+◌, ◌++◌, List, map, sym, ap, subst, arith}
-use Rattle.edn.specs.View.{values_of}
+use Rattle.edn_values.specs.View.{values_of}
 use Rattle.rules.specs.declared.term.Term.{Term}
 use Rattle.rules.specs.Meaning.{value_of}
 use Rattle.object_terms.specs.Terms.{known_by, values_spelled}

@@ -1,6 +1,6 @@
 use Rattle.std.proofs.Common.{sym, ap, ◌∙◌}
 use Rattle.std.specs.Prelude.{string_bytes}
-use Rattle.edn.specs.View.{value_of as spelled}
+use Rattle.edn_values.specs.View.{value_of as spelled}
 use Rattle.edn.proofs.Views.{view-Keyword}
 use Rattle.object_terms.specs.Terms.{known_by}
 use Rattle.object_terms.proofs.Sequences.{keyword_result, constant_spelled}

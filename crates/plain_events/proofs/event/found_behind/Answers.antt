@@ -1,5 +1,5 @@
 use Rattle.std.proofs.Common.{◌<◌, length, arith}
-use Rattle.edn.specs.Value.{keyword}
+use Rattle.edn_values.specs.Value.{keyword}
 use Rattle.plain_events.specs.Keys.{push}
 use Rattle.plain_events.proofs.Insides.{element_shorter}
 use Rattle.plain_events.proofs.Pairs.{pairs_more, pairs_end}

@@ -1,6 +1,6 @@
 -- The pairs so far say what was found.
 use Rattle.std.proofs.Common.{ℕ, List, length}
-use Rattle.edn.specs.Value.{Pairs}
+use Rattle.edn_values.specs.Value.{Pairs}
 use Rattle.plain_events.specs.Keys.{ArePairsAt}
 use Rattle.plain_events.specs.Found.{Say}
 use Rattle.plain_events.proofs.event.found_behind.Given as goal

@@ -1,4 +1,4 @@
-use Rattle.edn.specs.Value.{no_pairs}
+use Rattle.edn_values.specs.Value.{no_pairs}
 use Rattle.edn.specs.Text.SkipsGap.{no_gap}
 use Rattle.plain_events.proofs.Pairs.{pairs_start}
 use Rattle.plain_events.proofs.Told.{any_other}

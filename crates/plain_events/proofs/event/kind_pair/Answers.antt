@@ -1,5 +1,5 @@
 use Rattle.std.proofs.Common.{codes}
-use Rattle.edn.specs.Value.{keyword}
+use Rattle.edn_values.specs.Value.{keyword}
 use Rattle.events.specs.declared.event.EventKind.{EventKind}
 use Rattle.events.specs.Spelling.{text_of_kind}
 use Rattle.plain_events.proofs.Words.{pair_from}

@@ -1,5 +1,5 @@
 use Rattle.std.proofs.Common.{◌+◌, ◌<◌, length, refl, arith}
-use Rattle.edn.specs.Value.{keyword, no_pairs}
+use Rattle.edn_values.specs.Value.{keyword, no_pairs}
 use Rattle.plain_events.proofs.Insides.{element_shorter, inside_start, inside_more, vector_closed}
 use Rattle.plain_events.specs.Keys.{push}
 use Rattle.plain_events.proofs.Pairs.{pairs_start, pairs_more, marked_more, map_closed}

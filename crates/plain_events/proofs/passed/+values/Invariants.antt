@@ -1,6 +1,6 @@
 -- The rest of a collection is behind the part that was passed over. The measure goes down as more collections are open.
 use Rattle.std.proofs.Common.{◌+◌, ◌-◌, ◌*◌, length}
-use Rattle.edn.specs.Value.{Pairs}
+use Rattle.edn_values.specs.Value.{Pairs}
 use Rattle.plain_events.specs.Keys.{ArePairsAt, AreMarked}
 use Rattle.plain_events.proofs.Insides.{InsideSoFar}
 use Rattle.plain_events.proofs.passed.+values.Given as goal

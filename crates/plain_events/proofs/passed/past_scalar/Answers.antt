@@ -1,5 +1,5 @@
 use Rattle.std.proofs.Common.{◌≡◌, ◌∷◌, arith}
-use Rattle.edn.specs.Value.{keyword}
+use Rattle.edn_values.specs.Value.{keyword}
 use Rattle.plain_events.proofs.Insides.{string_scalar}
 use Rattle.plain_events.proofs.passed.past_scalar.Goals as goal
 

@@ -1,4 +1,4 @@
-use Rattle.edn.specs.Value.{nil, bool, int}
+use Rattle.edn_values.specs.Value.{nil, bool, int}
 use Rattle.std.proofs.Common.{true, false}
 use Rattle.edn.specs.Bytes.IsAtom.{spelled_nil, spelled_true, spelled_false}
 use Rattle.plain_events.proofs.Elements.{atom_at}

@@ -9,7 +9,8 @@ returns c =
     record {
       number = c.in_ok-name.number.now;
       behind = c.in_ok-size.behind.now;
-      name_at = c.in_ok-name.ensures;
+      name_at = c.in_ok-name.ensures.between;
+      known = c.in_ok-name.ensures.known;
       key_at = subst (λ n. BeginsNumeral c.in_ok-name.number.now n c.in_ok-size.behind.now) (sym same) c.in_ok-size.ensures;
       small = grind (arith, common_steps);
       part_behind = c.in_ok-part.ensures;

@@ -15,10 +15,10 @@ pub loop-at-init : goal.loop-at-init
 loop-at-init g c =
     let none = ap (λ (family : Family). family.1) c.restart.ensures in
     record {
-      grown = grown_none g.M.SeqObject.apply_to c.args.table.now c.args.calls.now _ c.forget.ensures.none (c.forget.ensures.stays (length c.args.calls.now)) none c.args.budget c.args.applied.now;
+      grown = grown_none (g.M.Specification.outcomes_of c.args.specification) c.args.table.now c.args.calls.now _ c.forget.ensures.none (c.forget.ensures.stays (length c.args.calls.now)) none c.args.budget c.args.applied.now;
       places = search rules;
       tries = search rules;
-      reached = λ once start hold. none_reached (of_table g.row.M-State.Denot g.M.SeqObject.start_state g.M.SeqObject.apply_to) c.args.table.now c.args.calls.now start c.args.kept.now.1 c.restart.new.self.1 none hold;
+      reached = λ once start hold. none_reached (of_table g.row.M-State.Denot (g.M.Specification.start_of c.args.specification) (g.M.Specification.outcomes_of c.args.specification)) c.args.table.now c.args.calls.now start c.args.kept.now.1 c.restart.new.self.1 none hold;
       all = search rules;
     }
 
@@ -42,7 +42,7 @@ returns-then-not-branch-clause-grown g c = grown_on c.loop-at.invariant.grown c.
 
 pub returns-then-not-branch-clause-reached : goal.returns-then-not-branch-clause-reached
 returns-then-not-branch-clause-reached g c =
-    put_itself (of_table g.row.M-State.Denot g.M.SeqObject.start_state g.M.SeqObject.apply_to) c.args.table.now c.loop-at.table c.put_widened.new.table c.args.calls.now c.args.kept.now.1 c.loop-at.work.all.1 c.put_widened.new.work.all.1 c.loop-at.at
+    put_itself (of_table g.row.M-State.Denot (g.M.Specification.start_of c.args.specification) (g.M.Specification.outcomes_of c.args.specification)) c.args.table.now c.loop-at.table c.put_widened.new.table c.args.calls.now c.args.kept.now.1 c.loop-at.work.all.1 c.put_widened.new.work.all.1 c.loop-at.at
     (product_in c.take_source.new.source) _ c.loop-at.invariant.tries.widens (to_itself c.take_source.new.source (record { number = c.take_source.new.source.number; place = c.len.result; set = 0 }) refl (omega arith))
     c.in_ok-take_source.ensures.product c.loop-at.invariant.reached c.in_ok-put_widened.ensures.reached
 
@@ -54,7 +54,7 @@ loop-at-preserved g c =
       grown = grown_on i.grown e.grown c.if-not-branch.false (omega arith);
       places = e.source.places ∙ i.places;
       tries = tries_on i.tries e.steps.tries;
-      reached = put_itself (of_table g.row.M-State.Denot g.M.SeqObject.start_state g.M.SeqObject.apply_to) c.args.table.now c.loop-at.table c.put_widened.new.table c.args.calls.now c.args.kept.now.1 c.loop-at.work.all.1 c.put_widened.new.work.all.1 c.loop-at.at
+      reached = put_itself (of_table g.row.M-State.Denot (g.M.Specification.start_of c.args.specification) (g.M.Specification.outcomes_of c.args.specification)) c.args.table.now c.loop-at.table c.put_widened.new.table c.args.calls.now c.args.kept.now.1 c.loop-at.work.all.1 c.put_widened.new.work.all.1 c.loop-at.at
           (product_in c.take_source.new.source) _ c.loop-at.invariant.tries.widens (to_itself c.take_source.new.source (record { number = c.take_source.new.source.number; place = c.len.result; set = 0 }) refl (omega arith))
           c.in_ok-take_source.ensures.product c.loop-at.invariant.reached c.in_ok-put_widened.ensures.reached;
       all = λ k row lt is.

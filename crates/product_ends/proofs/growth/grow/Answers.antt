@@ -69,7 +69,7 @@ returns-clause-steps g c = steps_rest c.loop-at.invariant.grown c.loop-at.invari
 pub returns-clause-found : goal.returns-clause-found
 returns-clause-found g c =
     let i = c.loop-at.invariant in
-    let o = of_table g.row.M-State.Denot g.M.SeqObject.start_state g.M.SeqObject.apply_to in
+    let o = of_table g.row.M-State.Denot (g.M.Specification.start_of c.args.specification) (g.M.Specification.outcomes_of c.args.specification) in
     let calls = c.args.calls.now in
     let t = c.args.table.now in
     let u = c.loop-at.table in

@@ -52,7 +52,7 @@ pub loop-at-preserved : goal.loop-at-preserved
 loop-at-preserved g c =
     let i = c.loop-at.invariant in
     let e = c.in_ok-grow_at.ensures in
-    let o = of_table g.row.M-State.Denot g.M.SeqObject.start_state g.M.SeqObject.apply_to in
+    let o = of_table g.row.M-State.Denot (g.M.Specification.start_of c.args.specification) (g.M.Specification.outcomes_of c.args.specification) in
     let mid = c.loop-at.work.all.1 in
     let new = c.grow_at.new.work.all.1 in
     let product = product_in c.take_source.new.source in
@@ -76,7 +76,7 @@ loop-at-preserved g c =
 pub returns-clause-closed : goal.returns-clause-closed
 returns-clause-closed g c r closed _ =
     let i = c.loop-at.invariant in
-    closed_more (of_table g.row.M-State.Denot g.M.SeqObject.start_state g.M.SeqObject.apply_to) c.args.table.now c.loop-at.table c.args.calls.now r.start i.tries.widens c.args.work.now.all.1 c.loop-at.work.all.1 c.args.source_index c.loop-at.at
+    closed_more (of_table g.row.M-State.Denot (g.M.Specification.start_of c.args.specification) (g.M.Specification.outcomes_of c.args.specification)) c.args.table.now c.loop-at.table c.args.calls.now r.start i.tries.widens c.args.work.now.all.1 c.loop-at.work.all.1 c.args.source_index c.loop-at.at
     (product_in c.take_source.new.source) i.grown.gains c.requires.here c.in_ok-take_source.ensures.product
     (i.reached r.once r.start r.hold) (i.led r) (λ k a b. omega arith) closed
 

@@ -12,7 +12,7 @@ counted before after calls ends cost = subst (λ steps. after ≤ before + steps
 
 pub returns-then-not-branch-clause-found : goal.returns-then-not-branch-clause-found
 returns-then-not-branch-clause-found g c =
-    let o = of_table g.row.M-State.Denot g.M.SeqObject.start_state g.M.SeqObject.apply_to in
+    let o = of_table g.row.M-State.Denot (g.M.Specification.start_of c.args.specification) (g.M.Specification.outcomes_of c.args.specification) in
     let found = c.in_ok-grow.ensures.found in
     record {
       all = search rules;
@@ -23,7 +23,7 @@ returns-then-not-branch-clause-found g c =
 
 pub returns-clause-found : goal.returns-clause-found
 returns-clause-found g c =
-    let o = of_table g.row.M-State.Denot g.M.SeqObject.start_state g.M.SeqObject.apply_to in
+    let o = of_table g.row.M-State.Denot (g.M.Specification.start_of c.args.specification) (g.M.Specification.outcomes_of c.args.specification) in
     let found = c.in_ok-grow.ensures.found in
     record {
       all = λ once ends shown closed _.
@@ -44,3 +44,6 @@ returns-in_err-put_left_by_ok-clause-cost g c = counted c.args.applied.now c.gro
 
 pub returns-clause-cost : goal.returns-clause-cost
 returns-clause-cost g c = counted c.args.applied.now c.grow.new.applied (length c.args.returning.now.calls.now) (c.args.returning.now.budget + 1) c.in_ok-grow.ensures.steps.cost
+
+pub returns-then-returning-clause-found : goal.returns-then-returning-clause-found
+returns-then-returning-clause-found g c = c.settle_kept.ensures (g.M.Specification.start_of c.args.specification) (g.M.Specification.outcomes_of c.args.specification)

@@ -8,8 +8,8 @@ use Rattle.product_ends.proofs.Reached.{kept_advanced, kept_beyond}
 use Rattle.product_ends.proofs.ok_and_fail.settle_kept.Goals as goal
 
 pub returns-then-rows-returning : goal.returns-then-rows-returning
-returns-then-rows-returning g c =
-    let o = of_table g.row.M-State.Denot g.M.SeqObject.start_state g.M.SeqObject.apply_to in
+returns-then-rows-returning g c = λ start outcomes.
+    let o = of_table g.row.S.Denot start outcomes in
     let rows = rows_in c.args.kept.now.1 in
     let over : c.args.returning.now.budget < length rows = (let is = c.rows.ensures.rows in let lt = c.if-rows-returning.true in omega (arith, is, lt)) in
     record {
@@ -18,8 +18,8 @@ returns-then-rows-returning g c =
     }
 
 pub returns : goal.returns
-returns g c =
-    let o = of_table g.row.M-State.Denot g.M.SeqObject.start_state g.M.SeqObject.apply_to in
+returns g c = λ start outcomes.
+    let o = of_table g.row.S.Denot start outcomes in
     let calls = c.args.returning.now.calls.now in
     let rows = rows_in c.args.kept.now.1 in
     let few : length rows ≤ c.args.returning.now.budget = (let is = c.rows.ensures.rows in let le = c.if-rows-returning.false in omega (arith, is, le)) in

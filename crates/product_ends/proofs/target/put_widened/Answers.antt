@@ -19,7 +19,7 @@ returns-then-not-branch-clause-grown g c =
 
 pub returns-then-not-branch-clause-reached : goal.returns-then-not-branch-clause-reached
 returns-then-not-branch-clause-reached g c once start hold =
-    let o = of_table g.row.M-State.Denot g.M.SeqObject.start_state g.M.SeqObject.apply_to in
+    let o = of_table g.row.M-State.Denot (g.M.Specification.start_of c.args.specification) (g.M.Specification.outcomes_of c.args.specification) in
     let old = c.args.work.now.all.1 in
     hold_still o c.args.table.now c.ensure_tried.new.table c.args.calls.now start c.in_ok-ensure_tried.ensures.steps.tries.widens old
     (hold_rest o c.args.table.now c.args.calls.now start (product_to c.args.work.now.source c.args.to) old hold)
@@ -34,7 +34,7 @@ returns-clause-puts g c row is =
 
 pub returns-clause-reached : goal.returns-clause-reached
 returns-clause-reached g c once start hold =
-    let o = of_table g.row.M-State.Denot g.M.SeqObject.start_state g.M.SeqObject.apply_to in
+    let o = of_table g.row.M-State.Denot (g.M.Specification.start_of c.args.specification) (g.M.Specification.outcomes_of c.args.specification) in
     let base = set c.args.work.now.source.sets.items c.args.to.place c.args.to.set in
     let calls = c.args.calls.now in
     let t = c.args.table.now in
@@ -46,7 +46,7 @@ returns-clause-reached g c once start hold =
     (subst (AreWidened c.in-Some.stays.now (set c.deref.result.now c.args.to.place c.args.to.set)) (sym c.deref-2.ensures.value) c.in_ok-widen.ensures) in
     put_reached c.args.to.number c.args.growable_from c.deref-2.result.now old c.put.new.self.1 c.in_ok-put.ensures.puts o u calls start
     (hold_still o t u calls start c.in_ok-ensure_tried.ensures.steps.tries.widens old (hold_rest o t calls start product old hold))
-    (widened_reached g.row.M-State.Denot g.M.SeqObject.start_state g.M.SeqObject.apply_to u calls once c.ensure_tried.new.transitions c.in_ok-ensure_tried.ensures.sound.transitions c.in_ok-ensure_tried.ensures.sound.stays c.args.to.number c.in-Some.stays.now c.in-Some.ensures.some start base c.deref-2.result.now wide
+    (widened_reached g.row.M-State.Denot (g.M.Specification.start_of c.args.specification) (g.M.Specification.outcomes_of c.args.specification) u calls once c.ensure_tried.new.transitions c.in_ok-ensure_tried.ensures.sound.transitions c.in_ok-ensure_tried.ensures.sound.stays c.args.to.number c.in-Some.stays.now c.in-Some.ensures.some start base c.deref-2.result.now wide
     (λ row is. says_still o t u calls start c.in_ok-ensure_tried.ensures.steps.tries.widens row (say_first o t calls start product old hold row is)))
 
 pub returns-clause-grown : goal.returns-clause-grown

@@ -21,7 +21,7 @@ pub returns-in_ok-singleton-in-Some-pop-clause-transition : goal.returns-in_ok-s
 returns-in_ok-singleton-in-Some-pop-clause-transition g c =
     let s = c.in-Some.state.now in
     let call = c.args.call.now in
-    let apply = g.M.SeqObject.apply_to in
+    let apply = (g.M.Specification.outcomes_of c.args.specification) in
     let states = c.number_of.new.states in
     let old = c.args.table.now.states in
     let number = c.args.number in

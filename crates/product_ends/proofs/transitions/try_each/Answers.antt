@@ -41,8 +41,8 @@ loop-call-preserved g c =
       order = i.order;
       long = omega arith;
       front = IsPrefixOf-trans old mid c.push.new.self.items i.front (subst (IsPrefixOf mid) (sym pushed) (IsPrefixOf-push mid c.in_ok-transition.transition));
-      tried = subst (λ l. AreTriedTo g.M.SeqObject.apply_to c.try_call.new.table calls c.args.number l (length old) (n + 1)) (sym pushed)
-          (tried_more g.M.SeqObject.apply_to calls c.loop-call.table c.try_call.new.table c.args.number (length old) n mid c.call-item.result c.in_ok-transition.transition c.try_call.ensures.tries.widens i.long here c.in_ok-transition.ensures.transition i.tried);
+      tried = subst (λ l. AreTriedTo (g.M.Specification.outcomes_of c.args.specification) c.try_call.new.table calls c.args.number l (length old) (n + 1)) (sym pushed)
+          (tried_more (g.M.Specification.outcomes_of c.args.specification) calls c.loop-call.table c.try_call.new.table c.args.number (length old) n mid c.call-item.result c.in_ok-transition.transition c.try_call.ensures.tries.widens i.long here c.in_ok-transition.ensures.transition i.tried);
       as_many = omega arith;
       stays_front = IsPrefixOf-trans c.args.transitions.now.stays.items stays c.push-in-loop-call.new.self.items i.stays_front (subst (IsPrefixOf stays) (sym stays_pushed) (IsPrefixOf-push stays c.stay.result));
       stays = λ same.
@@ -57,7 +57,7 @@ loop-call-preserved g c =
 
 pub returns-clause-sound : goal.returns-clause-sound
 returns-clause-sound g c sound =
-    let apply = g.M.SeqObject.apply_to in
+    let apply = (g.M.Specification.outcomes_of c.args.specification) in
     let i = c.loop-call.invariant in
     let calls = c.args.calls.now in
     let number = c.args.number in

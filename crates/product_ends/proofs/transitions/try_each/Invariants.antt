@@ -13,7 +13,7 @@ invariant-loop-call g l = record {
   stays_front : IsPrefixOf l.fn.transitions.stays.items l.transitions.stays.items;
   stays : length l.fn.transitions.stays.items ≡ length l.fn.transitions.transitions.items
       → AreStaysTo l.number l.transitions.transitions.items l.transitions.stays.items (length l.fn.transitions.transitions.items) l.call-index;
-  tried : AreTriedTo g.M.SeqObject.apply_to l.table l.calls l.number l.transitions.transitions.items (length l.fn.transitions.transitions.items) l.call-index;
+  tried : AreTriedTo (g.M.Specification.outcomes_of l.specification) l.table l.calls l.number l.transitions.transitions.items (length l.fn.transitions.transitions.items) l.call-index;
   tries : OnlyTries l.fn.table l.table l.fn.applied l.applied;
   cost : l.applied ≤ l.fn.applied + l.call-index;
 }

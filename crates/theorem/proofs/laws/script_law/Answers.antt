@@ -28,10 +28,10 @@ pub returns-clause-well_formed : goal.returns-clause-well_formed
 returns-clause-well_formed c = well_formed
 
 pub returns-clause-in_parts : goal.returns-clause-in_parts
-returns-clause-in_parts c = λ setup is_strict first later text end. in_parts first later (opened setup.concurrency setup.kind setup.budget is_strict) text end
+returns-clause-in_parts c = λ objects setup is_strict first later text end. in_parts first later (opened objects setup.concurrency setup.kind setup.budget is_strict) text end
 
 pub returns-clause-stays_open : goal.returns-clause-stays_open
-returns-clause-stays_open c = λ setup is_strict lines text end. stays_open is_strict lines (opened setup.concurrency setup.kind setup.budget is_strict) text end refl (λ _. refl)
+returns-clause-stays_open c = λ objects setup is_strict lines text end. stays_open is_strict lines (opened objects setup.concurrency setup.kind setup.budget is_strict) text end refl (λ _. refl)
 
 pub returns-clause-silent : goal.returns-clause-silent
 returns-clause-silent c = silent

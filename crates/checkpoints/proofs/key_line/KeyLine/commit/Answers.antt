@@ -18,4 +18,4 @@ invariant_of-self c =
 pub invariant_of-self-in-Some-Change : goal.invariant_of-self-in-Some-Change
 invariant_of-self-in-Some-Change c =
     IsSoundLine-changed _ _ _ _ _ _ _ _ c.self.invariant c.in-Some-Change.change (sym c.take.ensures.value ∙ c.in-Some-Change.is ∙ ap Some c.in-Some-Change.field-0-is)
-    c.into_inner-kind.result c.into_inner-kind.ensures _ c.take.ensures.after c.commit-in-Some-Change.new.self c.commit-in-Some-Change.ensures _ _ _ c.truncate.ensures.items c.keep_or_renew.ensures
+    c.into_inner-budget.result c.into_inner-budget.ensures _ c.take.ensures.after c.commit-in-Some-Change.new.self c.commit-in-Some-Change.ensures _ _ _ c.truncate.ensures.items c.keep_or_renew.ensures

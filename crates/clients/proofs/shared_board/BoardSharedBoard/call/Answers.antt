@@ -5,7 +5,7 @@ use Rattle.clients.proofs.shared_board.BoardSharedBoard.call.Goals as goal
 pub returns-in-Ok : goal.returns-in-Ok
 returns-in-Ok g c =
     let e = c.in-Ok.ensures in
-    inl (record { number = c.call.ensures.number; entry = e.answered.entry; count = e.answered.count })
+    rw c.into_reply.ensures (inl (record { number = c.call.ensures.number; entry = e.answered.entry; count = e.answered.count }))
 
 pub returns-in-Err : goal.returns-in-Err
 returns-in-Err g c =

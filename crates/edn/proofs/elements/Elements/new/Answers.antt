@@ -1,4 +1,4 @@
-use Rattle.edn.specs.Value.{none}
+use Rattle.edn_values.specs.Value.{none}
 use Rattle.edn.proofs.OneByOne.{left_start}
 use Rattle.edn.proofs.elements.Elements.new.Goals as goal
 

@@ -1,6 +1,6 @@
 use Rattle.std.proofs.Common.{ap, subst, option_map}
 use Rattle.edn.specs.Reading.{FindsNext}
-use Rattle.edn.specs.View.{value_of}
+use Rattle.edn_values.specs.View.{value_of}
 use Rattle.edn.proofs.OneByOne.{left_behind, found_next, found_shorter, found_end}
 use Rattle.edn.proofs.elements.Elements.next.Goals as goal
 

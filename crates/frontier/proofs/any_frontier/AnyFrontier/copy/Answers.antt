@@ -17,3 +17,6 @@ returns-in_ok-copied-in-Set-clause-copied c = rw c.in-Set.is (rw (← c.deref-in
 
 pub returns-in_ok-copied-in-UnorderedQueue-clause-copied : goal.returns-in_ok-copied-in-UnorderedQueue-clause-copied
 returns-in_ok-copied-in-UnorderedQueue-clause-copied c = rw c.in-UnorderedQueue.is (rw (← c.deref-in-UnorderedQueue.ensures) c.in_ok-copied-in-UnorderedQueue.ensures)
+
+pub returns-in_ok-copy_by_rules-in-Own-clause-copied : goal.returns-in_ok-copy_by_rules-in-Own-clause-copied
+returns-in_ok-copy_by_rules-in-Own-clause-copied c = rw c.in-Own.is (rw (← c.deref-in-Own.ensures) c.in_ok-copy_by_rules-in-Own.ensures.copied)

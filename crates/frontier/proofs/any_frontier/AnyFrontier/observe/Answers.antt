@@ -32,3 +32,6 @@ returns-in-WideFifoQueue-clause-observed c = rw c.in-WideFifoQueue.is (rw (← c
 
 pub returns-in-WideUnorderedQueue-clause-observed : goal.returns-in-WideUnorderedQueue-clause-observed
 returns-in-WideUnorderedQueue-clause-observed c = rw c.in-WideUnorderedQueue.is (rw (← c.deref_mut-in-WideUnorderedQueue.ensures.value) c.observe_wide_unordered_queue.ensures)
+
+pub returns-in-Own-clause-observed : goal.returns-in-Own-clause-observed
+returns-in-Own-clause-observed c = rw c.in-Own.is (rw (← c.deref_mut-in-Own.ensures.value) c.observe_by_rules.ensures.observed)

@@ -32,3 +32,6 @@ returns-in-WideFifoQueue-clause-prepared c = rw c.in-WideFifoQueue.is (rw (← c
 
 pub returns-in-WideUnorderedQueue-clause-prepared : goal.returns-in-WideUnorderedQueue-clause-prepared
 returns-in-WideUnorderedQueue-clause-prepared c = rw c.in-WideUnorderedQueue.is (rw (← c.deref_mut-in-WideUnorderedQueue.ensures.value) c.prepare_wide_unordered_queue.ensures)
+
+pub returns-in-Own-clause-prepared : goal.returns-in-Own-clause-prepared
+returns-in-Own-clause-prepared c = rw c.in-Own.is (rw (← c.deref_mut-in-Own.ensures.value) c.prepare_by_rules.ensures.prepared)

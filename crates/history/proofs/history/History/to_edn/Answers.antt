@@ -1,8 +1,8 @@
 use Rattle.std.proofs.Common.{◌≡◌, Some, IfSome, length, slice_get, take, ap, sym, ◌∙◌, refl, subst, arith}
 use Rattle.std.proofs.lemmas.Option.{slice_get_read}
-use Rattle.edn.specs.View.{value_of}
+use Rattle.edn_values.specs.View.{value_of}
 use Rattle.events.specs.Spelling.{Spells}
-use Rattle.events.specs.EventMap.{map_of, with_index}
+use Rattle.events.specs.EventMap.{map_of, with_index, IsOfProgram}
 use Rattle.history.specs.WellFormed.{HistoryView, IsHistoryOf}
 use Rattle.history.proofs.KeyPrefixes.{event_in_tables, ok_told, some_told}
 use Rattle.history.proofs.history.History.to_edn.Goals as goal
@@ -32,5 +32,6 @@ returns-clause-spells c =
     let len : length events ≡ length c.args.self.now.events = ap length c.events.ensures in
     let at : slice_get c.args.self.now.events c.args.index ≡ Some item =
     ap (λ l. slice_get l c.args.index) (sym c.events.ensures) ∙ slice_get_read events (length events) c.args.index item refl (omega arith) c.index-events-index.is in
-    ok_told c.map_of_event.result (λ x. Spells (value_of x) (with_index c.args.index item)) (λ x. IfSome (slice_get c.args.self.now.events c.args.index) (λ event. Spells (value_of x) (with_index c.args.index event)))
-    (λ x h. some_told (slice_get c.args.self.now.events c.args.index) item (λ event. Spells (value_of x) (with_index c.args.index event)) at h) c.map_of_event.ensures.spells
+    ok_told c.map_of_event.result (λ x. IsOfProgram item.body → Spells (value_of x) (with_index c.args.index item))
+    (λ x. IfSome (slice_get c.args.self.now.events c.args.index) (λ event. IsOfProgram event.body → Spells (value_of x) (with_index c.args.index event)))
+    (λ x h. some_told (slice_get c.args.self.now.events c.args.index) item (λ event. IsOfProgram event.body → Spells (value_of x) (with_index c.args.index event)) at h) c.map_of_event.ensures.spells

@@ -1,4 +1,4 @@
-use Rattle.kinds.specs.declared.model_kind.ModelKind.TheVariants.{Register, CasRegister, Mutex, FifoQueue, Set, UnorderedQueue, WideRegister, WideCasRegister, WideSet, WideFifoQueue, WideUnorderedQueue}
+use Rattle.kinds.specs.declared.model_kind.ModelKind.TheVariants.{Register, CasRegister, Mutex, FifoQueue, Set, UnorderedQueue, WideRegister, WideCasRegister, WideSet, WideFifoQueue, WideUnorderedQueue, Own}
 use Rattle.kinds.proofs.AnyStates.{start_at}
 use Rattle.kinds.proofs.any_state.AnyState.start.Goals as goal
 
@@ -34,3 +34,6 @@ returns-in-WideFifoQueue c = start_at WideFifoQueue c.start-in-WideFifoQueue.res
 
 pub returns-in-WideUnorderedQueue : goal.returns-in-WideUnorderedQueue
 returns-in-WideUnorderedQueue c = start_at WideUnorderedQueue c.start-in-WideUnorderedQueue.result c.args.kind c.start-in-WideUnorderedQueue.ensures c.in-WideUnorderedQueue.is
+
+pub returns-in-Own : goal.returns-in-Own
+returns-in-Own c = start_at (Own c.in-Own.object) c.start-in-Own.result c.args.kind c.start-in-Own.ensures c.in-Own.is

@@ -1,5 +1,5 @@
 use Rattle.std.proofs.Common.{◌≡◌, Some, codes, refl, subst}
-use Rattle.edn.specs.Value.{keyword}
+use Rattle.edn_values.specs.Value.{keyword}
 use Rattle.models.specs.Names.{text_of}
 use Rattle.events.specs.EventMap.{number}
 use Rattle.events.specs.Spelling.{text_of_kind}
@@ -13,7 +13,7 @@ pub returns-in-Some-process_pair : goal.returns-in-Some-process_pair
 returns-in-Some-process_pair c = record { name = codes "process"; value = number c.in-Some-process_pair.process; pair = c.in-Some-process_pair.ensures.pair; adds = c.in_ok-put_process.ensures (number c.in-Some-process_pair.process) (refl, c.in-Some-process_pair.ensures.below) }
 
 pub returns-in-Some-name_pair : goal.returns-in-Some-name_pair
-returns-in-Some-name_pair c = record { name = codes "f"; value = keyword (text_of c.in-Some-name_pair.name); pair = c.in-Some-name_pair.ensures; adds = c.in_ok-put_name.ensures (keyword (text_of c.in-Some-name_pair.name)) refl }
+returns-in-Some-name_pair c = record { name = codes "f"; value = keyword (text_of c.in-Some-name_pair.name); pair = c.in-Some-name_pair.ensures.pair; adds = c.in_ok-put_name.ensures (keyword (text_of c.in-Some-name_pair.name)) (c.in-Some-name_pair.ensures.known, refl) }
 
 pub returns-in-Some-value_pair : goal.returns-in-Some-value_pair
 returns-in-Some-value_pair c = record { name = codes "value"; value = c.in-Some-value_pair.ensures.value; pair = c.in-Some-value_pair.ensures.pair; adds = c.in_ok-put_value.ensures (c.in-Some-value_pair.ensures.value) c.in-Some-value_pair.ensures.spells }

@@ -1,7 +1,0 @@
-use Rattle.std.proofs.Common.{take}
-use Rattle.edn.specs.Value.{AreDistinct}
-use Rattle.edn.proofs.Repeats.{keys_in}
-use Rattle.edn.proofs.distinct.all_differ.Given as goal
-
-abbrev pub invariant-loop-i : goal.invariant-loop-i
-invariant-loop-i g l = AreDistinct (keys_in g.T.Keyed.key_value (take l.i l.items))

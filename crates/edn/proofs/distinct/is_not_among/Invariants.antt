@@ -1,8 +1,0 @@
-use Rattle.std.proofs.Common.{take}
-use Rattle.edn.specs.Value.{IsNotAmong}
-use Rattle.edn.specs.View.{value_of}
-use Rattle.edn.proofs.Repeats.{keys_in}
-use Rattle.edn.proofs.distinct.is_not_among.Given as goal
-
-abbrev pub invariant-loop-item : goal.invariant-loop-item
-invariant-loop-item g l = IsNotAmong (value_of l.key) (keys_in g.T.Keyed.key_value (take l.item-index l.items))

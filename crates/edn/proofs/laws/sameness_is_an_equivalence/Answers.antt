@@ -1,5 +1,0 @@
-use Rattle.edn.proofs.Equivalence.{same_refl, same_sym, same_trans}
-use Rattle.edn.proofs.laws.sameness_is_an_equivalence.Goals as goal
-
-pub returns : goal.returns
-returns c = record { reflexive = same_refl; symmetric = same_sym; transitive = same_trans }

@@ -1,0 +1,4 @@
+pub mod Alike
+pub mod Faults
+pub mod Measures
+pub mod Spelling

@@ -1,0 +1,8 @@
+"""`python -m jepmon.explore`."""
+from __future__ import annotations
+
+import sys
+
+from . import main
+
+sys.exit(main())
